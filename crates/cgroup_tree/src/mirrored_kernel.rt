@@ -165,6 +165,14 @@ impl<F: GroupFiles, S: Sited> Kernel for MirroredKernel<F, S> {
         self.mirror.inner.find_group(parent, name)
     }
 
+    fn makable(&self, parent: Group, name: &str) -> Result<(), KernelFault> {
+        self.mirror.inner.makable(parent, name)
+    }
+
+    fn has_pids(&self) -> bool {
+        self.mirror.inner.has_pids()
+    }
+
     fn requested_cpus(&self, group: Group) -> Result<&IdSet, KernelFault> {
         self.mirror.inner.requested_cpus(group)
     }

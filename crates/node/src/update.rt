@@ -39,15 +39,14 @@ fn gives_way<K: Kernel>(
     if !becomes_pinned(&container.demand, demand) {
         return false;
     }
-    let requests = requested(kernel, container.group);
-    !(*requests == *reserved)
+    *requested(kernel, container.group) != *reserved
 }
 
 /// Whether its homes are others now.
 fn moves_home(before: &Demand, after: &Demand) -> bool
     ensures { result ≡ moves_home before.now after.now }
 {
-    !(before.homes == after.homes)
+    before.homes != after.homes
 }
 
 /// Writes a group's CPUs, or does nothing.
@@ -94,9 +93,7 @@ fn rewrite<K: Kernel>(
     ensures { Rewrites (K.state kernel.old) reserved (seen container.now) demand.now result (K.state kernel.new) }
 {
     let gives = gives_way(&*kernel, &reserved, container, demand);
-    if let Err(fault) = write_cpus_if(gives, kernel, container.group, reserved) {
-        return Err(fault);
-    }
+    write_cpus_if(gives, kernel, container.group, reserved)?;
     let moves = moves_home(&container.demand, demand);
     write_mems_if(moves, kernel, container.group, demand.homes)
 }

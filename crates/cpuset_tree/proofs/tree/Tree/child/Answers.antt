@@ -1,12 +1,12 @@
 use Rattle.std.proofs.Common.{rules, ◌≡◌, ◌==◌, ℕ, false, ◌∙◌, sym, ap}
 use Rattle.std.specs.List.{list_any}
+use Rattle.std.specs.Option.{option_or}
 use Rattle.cpuset_tree.specs.Groups.{child_among, child_of}
 use Rattle.cpuset_tree.specs.Kept.{listed, mark_of}
 use Rattle.cpuset_tree.specs.TreeState.{TreeState}
 use Rattle.cpuset_tree.proofs.KeptLemmas.{child_in_two}
 use Rattle.cpuset_tree.proofs.MarkLemmas.{no_child}
 use Rattle.cpuset_tree.proofs.tree.Tree.child.Goals as goal
-use Rattle.std.specs.Option.{option_or}
 
 pub returns-in-Some : goal.returns-in-Some
 returns-in-Some c =

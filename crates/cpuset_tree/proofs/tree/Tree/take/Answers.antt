@@ -25,7 +25,7 @@ invariant_of-self c =
           (ap (λ (s : TreeState). has_children s g) c.self.view_is ∙ c.requires.childless)
           c.try_remove.ensures.updates),
       AreParentsUpTo-removed i.groups c.try_remove.new.self g.key i.newest_parent c.try_remove.ensures.updates c.self.invariant.1,
-      AreMarked-removed i.groups c.try_remove.new.self g.key i.marks.items c.forget_mark.new.marks.items c.try_remove.ensures.updates c.forget_mark.ensures c.self.invariant.2,
+      AreMarked-removed i.groups c.try_remove.new.self g.key i.marks.items c.forget_mark.new.marks.items c.try_remove.ensures.updates c.forget_mark.ensures.others c.self.invariant.2,
     )
 
 pub returns : goal.returns

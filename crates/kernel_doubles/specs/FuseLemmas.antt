@@ -3,10 +3,10 @@ use Rattle.std.proofs.Common.{◌≡◌, ℕ, ◌+◌, ◌-◌, ◌<◌, ◌≤�
 use Rattle.std.proofs.lemmas.Bool.{cond-true, cond-false}
 use Rattle.std.proofs.lemmas.Bool.Decides.{nat_tests}
 use Rattle.std.specs.Prelude.{nat_lt, nat_le}
-use Rattle.kernel_model.specs.declared.fused_kernel.Fuse.{Fuse}
-use Rattle.kernel_model.specs.declared.fused_kernel.Fuse.TheVariants.{Waiting, Blown}
+use Rattle.kernel_doubles.specs.declared.fused_kernel.Fuse.{Fuse}
+use Rattle.kernel_doubles.specs.declared.fused_kernel.Fuse.TheVariants.{Waiting, Blown}
 use Rattle.kernel_model.specs.KernelState.{KernelState}
-use Rattle.kernel_model.specs.Fuse.{fuse_after, fused, FusesCountWrites}
+use Rattle.kernel_doubles.specs.Fuse.{fuse_after, fused, FusesCountWrites}
 
 abbrev is_past : ℕ → ℕ → Bool
 is_past n k = nat_lt 0 n && nat_le n k

@@ -1,7 +1,7 @@
 -- How a fuse burns, write by write. No public clause cites this module.
 use Rattle.std.specs.Prelude.{◌-◌, Bool, false, ◌==◌, if◌then◌else◌}
-use Rattle.kernel_model.specs.declared.fused_kernel.Fuse.{Fuse}
-use Rattle.kernel_model.specs.declared.fused_kernel.Fuse.TheVariants.{Waiting, Blown}
+use Rattle.kernel_doubles.specs.declared.fused_kernel.Fuse.{Fuse}
+use Rattle.kernel_doubles.specs.declared.fused_kernel.Fuse.TheVariants.{Waiting, Blown}
 
 -- the fuse after one write more
 abbrev pub burnt : Fuse → Fuse

@@ -1,12 +1,15 @@
-ghost use Rattle.std.specs.Prelude.{◌≡◌, Some, true};
+//! What a runtime needs of a kernel: the trait, each call of which is one case of a written meaning.
+ghost use Rattle.std.specs.Prelude.{◌≡◌, Some, None, true, MatchResult};
 ghost use Rattle.faults.specs.Calls.{behind};
 ghost use Rattle.cpuset_tree.specs.Groups.{root_of, has_group, child_of, requested_cpus, requested_mems};
 ghost use Rattle.cpuset_tree.specs.Effective.{effective_cpus, effective_mems};
 ghost use Rattle.proctable.specs.Processes.{is_alive};
+ghost use Rattle.proctable.specs.TableAnswers.{has_pids};
 ghost use Rattle.kernel_model.specs.KernelState.{KernelState};
 ghost use Rattle.kernel_model.specs.Cases.{MakesGroup, RemovesGroup, WritesCpus, WritesMems, Spawns, EndsGroup, Forks};
 ghost use Rattle.kernel_model.specs.Cases.{Exits};
 ghost use Rattle.kernel_model.specs.Cases.{GoesOffline, ComesOnline, read_of};
+ghost use Rattle.kernel_model.specs.Refusals.{make_refusal};
 ghost use Rattle.kernel_model.specs.WellFormed.{IsWellFormed};
 
 use crate::KernelFault;
@@ -81,6 +84,18 @@ pub trait Kernel {
     /// `NoGroup`.
     fn find_group(&self, parent: Group, name: &str) -> Result<Option<Group>, KernelFault>
         ensures { result ≡ read_of (state self.now) parent (child_of (state self.now).tree parent name.now) };
+
+    /// Whether a group can be made below the parent, or why not. It is no write.
+    ///
+    /// # Errors
+    /// In this order: `NoGroup`, `Exists`, `NoSerials`.
+    fn makable(&self, parent: Group, name: &str) -> Result<(), KernelFault>
+        ensures { MatchResult result (λ _. make_refusal (state self.now) parent name.now ≡ None)
+            (λ fault. make_refusal (state self.now) parent name.now ≡ Some fault) };
+
+    /// Whether a pid is left for one process more.
+    fn has_pids(&self) -> bool
+        ensures { result ≡ has_pids (state self.now).table };
 
     /// The CPUs that a group requests.
     ///

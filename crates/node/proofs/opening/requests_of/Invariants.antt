@@ -2,7 +2,7 @@ use Rattle.std.proofs.Common.{◌≡◌, ◌++◌, drop}
 use Rattle.std.specs.Prelude.{map}
 use Rattle.apply_plan.specs.Targets.{ArePlaced}
 use Rattle.apply_plan.specs.DueWrite.{held}
-use Rattle.node.proofs.begin.requests_of.Given as goal
+use Rattle.node.proofs.opening.requests_of.Given as goal
 
 -- what was read so far and what the entries that are left request are what all request
 abbrev pub invariant-loop-entry : goal.invariant-loop-entry

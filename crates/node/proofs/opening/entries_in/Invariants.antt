@@ -2,7 +2,7 @@ use Rattle.std.proofs.Common.{◌≡◌, ◌++◌}
 use Rattle.std.specs.Slice.Iter.{iter_rest}
 use Rattle.node.specs.Entries.{entries_in}
 use Rattle.node.specs.Viewed.{all_seen}
-use Rattle.node.proofs.begin.entries_in.Given as goal
+use Rattle.node.proofs.opening.entries_in.Given as goal
 
 -- the entries so far and those of the containers that are left are those of all
 abbrev pub invariant-loop-container : goal.invariant-loop-container

@@ -1,18 +1,17 @@
 //! A kernel of which one write fails: a test double (fault injection) of the crates `tools` and `scenarios`, which
 //! `numarun` never makes.
 ghost use Rattle.std.specs.Prelude.{◌≡◌, true, false, IfErr, OnOk};
-ghost use Rattle.kernel_model.specs.declared.fault.KernelFault.TheVariants.{Failed};
-ghost use Rattle.faults.specs.declared.or_memory.OrMemory.TheVariants.{Fault};
-ghost use Rattle.kernel_model.specs.Fuse.{fuse_after, fused, FollowsTheCount, FailsAtTheNth};
-ghost use Rattle.kernel_model.specs.Burning.{burnt, is_due};
+ghost use Rattle.kernel_model.specs.declared.KernelFault.TheVariants.{Failed};
+ghost use Rattle.faults.specs.declared.OrMemory.TheVariants.{Fault};
+ghost use Rattle.kernel_doubles.specs.Fuse.{fuse_after, fused, FollowsTheCount, FailsAtTheNth};
+ghost use Rattle.kernel_doubles.specs.Burning.{burnt, is_due};
 ghost use Rattle.kernel_model.specs.Cases.{MakesGroup, RemovesGroup, WritesCpus, WritesMems, Spawns, EndsGroup, Forks};
 ghost use Rattle.kernel_model.specs.Cases.{Exits};
 ghost use Rattle.kernel_model.specs.Cases.{GoesOffline, ComesOnline};
 
-use crate::{Kernel, KernelFault};
 use cpu_set::IdSet;
-use cpuset_tree::Group;
 use faults::OrMemory;
+use kernel_model::{Group, Kernel, KernelFault};
 
 /// How many writes are made until the one that fails.
 #[derive(Clone, Copy, Debug, PartialEq, Eq)]
@@ -167,6 +166,14 @@ impl<K: Kernel> Kernel for FusedKernel<K> {
 
     fn find_group(&self, parent: Group, name: &str) -> Result<Option<Group>, KernelFault> {
         self.inner.find_group(parent, name)
+    }
+
+    fn makable(&self, parent: Group, name: &str) -> Result<(), KernelFault> {
+        self.inner.makable(parent, name)
+    }
+
+    fn has_pids(&self) -> bool {
+        self.inner.has_pids()
     }
 
     fn requested_cpus(&self, group: Group) -> Result<&IdSet, KernelFault> {

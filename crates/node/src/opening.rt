@@ -43,7 +43,7 @@ fn as_cpus(alloc: Global, machine: &Machine, plan: &[IdSet]) -> Result<Vec<IdSet
 }
 
 /// The CPUs that are kept of a plan: those of its cores, or none where a core has one CPU, since the plan has them.
-fn kept_cpus(alloc: Global, machine: &Machine, plan: &[IdSet]) -> Result<Vec<IdSet>, AllocError>
+pub fn kept_cpus(alloc: Global, machine: &Machine, plan: &[IdSet]) -> Result<Vec<IdSet>, AllocError>
     ensures { IfOk result (λ kept. AreKept machine.now plan.now kept.items) }
 {
     if machine.threads() == 1 {
@@ -158,13 +158,6 @@ impl<K: Kernel + Drop> Node<K> {
             (seen_ongoing p.1)) }
     {
         self.opening_to(shown_cpus(&self.machine, plan, kept))
-    }
-
-    /// The CPUs that are kept of a plan of cores.
-    pub(crate) fn kept_of(&self, plan: &[IdSet]) -> Result<Vec<IdSet>, AllocError>
-        ensures { IfOk result (λ kept. AreKept self.now.machine plan.now kept.items) }
-    {
-        kept_cpus(self.alloc, &self.machine, plan)
     }
 
     /// The pool that these sets of CPUs leave, and the hand-over to them.

@@ -1,7 +1,7 @@
 use Rattle.std.proofs.Common.{◌≡◌, ◌++◌, drop}
 use Rattle.std.specs.Prelude.{map}
 use Rattle.machine.specs.Cores.{cpus_of_cores}
-use Rattle.node.proofs.begin.as_cpus.Given as goal
+use Rattle.node.proofs.opening.as_cpus.Given as goal
 
 -- the sets so far and those of the cores that are left are those of all
 abbrev pub invariant-loop-cores : goal.invariant-loop-cores

@@ -1,13 +1,13 @@
 use Rattle.std.proofs.Common.{List, [], ◌∷◌, ◌++◌, take, refl, subst, arith}
 use Rattle.std.proofs.lemmas.List.{take_more}
 use Rattle.std.specs.Prelude.{Result}
-use Rattle.faults.specs.declared.or_memory.OrMemory.{OrMemory}
-use Rattle.kernel_model.specs.declared.fault.KernelFault.{KernelFault}
-use Rattle.kernel_model.specs.declared.call.Call.{Call}
-use Rattle.kernel_model.specs.declared.call.Reply.{Reply}
+use Rattle.faults.specs.declared.OrMemory.{OrMemory}
+use Rattle.kernel_model.specs.declared.KernelFault.{KernelFault}
+use Rattle.kernel_model.specs.declared.Call.{Call}
+use Rattle.kernel_model.specs.declared.Reply.{Reply}
 use Rattle.kernel_model.specs.KernelState.{KernelState}
 use Rattle.kernel_model.specs.Runs.{Step, Run}
-use Rattle.kernel_model.proofs.call.make_calls.Goals as goal
+use Rattle.kernel_doubles.proofs.calls.make_calls.Goals as goal
 
 -- one call more
 Run-push : (old mid new : KernelState) (calls : List Call) (replies : List (Result Reply (OrMemory KernelFault))) (call : Call)

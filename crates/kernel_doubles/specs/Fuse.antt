@@ -1,7 +1,7 @@
 -- A kernel that makes one of its writes fail.
 use Rattle.std.specs.Prelude.{◌≡◌, ◌≢◌, ℕ, ◌+◌, ◌-◌, ◌<◌, ◌≤◌, ◌&&◌, nat_lt, nat_le, if◌then◌else◌, Result, Err}
-use Rattle.kernel_model.specs.declared.fused_kernel.Fuse.{Fuse}
-use Rattle.kernel_model.specs.declared.fused_kernel.Fuse.TheVariants.{Waiting, Blown}
+use Rattle.kernel_doubles.specs.declared.fused_kernel.Fuse.{Fuse}
+use Rattle.kernel_doubles.specs.declared.fused_kernel.Fuse.TheVariants.{Waiting, Blown}
 use Rattle.kernel_model.specs.KernelState.{KernelState, failed}
 
 -- the fuse for the nth write once k writes were made: blown if the nth was among them, else it waits for those left; with 0

@@ -1,7 +1,7 @@
 use Rattle.std.proofs.Common.{◌≡◌, ◌≤◌, length, take}
 use Rattle.std.specs.Prelude.{vec_len, vec_capacity}
 use Rattle.kernel_model.specs.Runs.{Run}
-use Rattle.kernel_model.proofs.call.make_calls.Given as goal
+use Rattle.kernel_doubles.proofs.calls.make_calls.Given as goal
 
 abbrev pub invariant-loop-call : goal.invariant-loop-call
 invariant-loop-call g l =

@@ -1,6 +1,6 @@
 use Rattle.std.proofs.Common.{◌≡◌, sym, ◌∙◌}
 use Rattle.node.proofs.OpeningLemmas.{single_plan}
-use Rattle.node.proofs.begin.shown_cpus.Goals as goal
+use Rattle.node.proofs.opening.shown_cpus.Goals as goal
 
 pub returns-then-threads-eq1 : goal.returns-then-threads-eq1
 returns-then-threads-eq1 c =

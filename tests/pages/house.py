@@ -1,0 +1,175 @@
+"""How sources and definitions are laid out: no comment line of a source is above 120 characters; each source says at its head what it is;
+and lemmas stand on the pages of specs/ that are named after them, so that whoever reads definitions can pass them over.
+
+house.py  fails where a file is otherwise, or where a fault that is planted here is not found
+"""
+
+import pathlib
+import re
+import sys
+from typing import Callable, Dict, Iterator, List, Tuple
+
+TOP = pathlib.Path(__file__).resolve().parents[2]
+MOST = 120
+# A public item with the line above it.
+ITEM = re.compile(r"^( *///[^\n]*|#\[[^\n]*)\npub (?:\w+ )*?(?:struct|enum|trait|fn|const) (\w+)", re.MULTILINE)
+# The line that states what a lemma proves, and that of its proof; a definition begins with `abbrev`, `record` or `data`.
+STATED = re.compile(r"^( *)(?:pub )?([^\s():,={}\[\];]+) :(?: |$)")
+# What is still otherwise: sources with longer comments, sources without heads, and pages that hold definitions beside lemmas, or lemmas under
+# the name of a definition. What no longer is so has to be dropped here; nothing is to be added.
+LONG: Tuple[str, ...] = (
+    "crates/certificate_text/src/offer.rt",
+    "crates/cli/src/mirroring.rt",
+    "crates/cli/src/program.rt",
+    "crates/cli/src/spellings.rt",
+    "crates/cpu_list/src/lib.rt",
+    "crates/cpu_list/src/rising.rt",
+    "crates/network_simplex/src/entering.rt",
+    "crates/network_simplex/src/lib.rt",
+    "crates/network_simplex/src/pivots.rt",
+    "crates/network_simplex/src/proposal.rt",
+    "crates/network_simplex/src/tree.rt",
+    "crates/solution/src/quick.rt",
+    "crates/transport/src/augment.rt",
+    "crates/transport/src/solver.rt",
+)
+HEADLESS: Tuple[str, ...] = (
+    "crates/byte_output/src/output.rt",
+    "crates/certificate/src/limits.rt",
+    "crates/certificate_text/src/checking.rt",
+    "crates/certificate_text/src/decimal.rt",
+    "crates/certificate_text/src/line_words.rt",
+    "crates/certificate_text/src/list_word.rt",
+    "crates/certificate_text/src/reading.rt",
+    "crates/certificate_text/src/word_pairs.rt",
+    "crates/demand/src/lists.rt",
+    "crates/demand/src/quota.rt",
+    "crates/json_text/src/lookup.rt",
+    "crates/json_text/src/parsing.rt",
+    "crates/program_io/src/reading.rt",
+    "crates/rows/src/row.rt",
+    "crates/slit/src/entries.rt",
+    "crates/slit/src/header.rt",
+    "crates/twins/src/parts.rt",
+    "crates/twins/src/span_list.rt",
+    "crates/twins/src/spans.rt",
+)
+MIXED: Tuple[str, ...] = (
+    "crates/apply_plan/specs/KernelFacts.antt",
+    "crates/byte_output/specs/Digits.antt",
+    "crates/byte_output/specs/Sending.antt",
+    "crates/certificate/specs/Apart.antt",
+    "crates/certificate/specs/ApartTest.antt",
+    "crates/certificate/specs/Cpus.antt",
+    "crates/certificate/specs/Offers.antt",
+    "crates/certificate/specs/Packed.antt",
+    "crates/certificate/specs/RisingNumbers.antt",
+    "crates/certificate/specs/Sums.antt",
+    "crates/certificate/specs/Tests.antt",
+    "crates/certificate/specs/TwoCosts.antt",
+    "crates/certificate/specs/WeightsCode.antt",
+    "crates/certificate_text/specs/DraftView.antt",
+    "crates/cgroup_tree/specs/First.antt",
+    "crates/cpu_list/specs/FirstFaults.antt",
+    "crates/cpu_list/specs/ItemFaults.antt",
+    "crates/cpu_set/specs/ListedSets.antt",
+    "crates/cpu_set/specs/Pointwise.antt",
+    "crates/cpu_set/specs/SetRanges.antt",
+    "crates/cpu_set/specs/Those.antt",
+    "crates/faults/specs/Tests.antt",
+    "crates/machine/specs/CoreCounts.antt",
+    "crates/machine/specs/CoreSums.antt",
+    "crates/node/specs/Listed.antt",
+    "crates/node/specs/NodeState.antt",
+    "crates/program_io/specs/Taking.antt",
+    "crates/rows/specs/OfferSets.antt",
+    "crates/rows/specs/PartLimits.antt",
+    "crates/rows/specs/PartRising.antt",
+    "crates/script/specs/Written.antt",
+    "crates/tagged_sets/specs/RangeSets.antt",
+    "crates/tools/specs/Start.antt",
+)
+
+
+def long_comments(text: str) -> Iterator[str]:
+    """The comment lines that are too long."""
+    for number, line in enumerate(text.split("\n"), 1):
+        if line.lstrip().startswith("//") and len(line) > MOST:
+            yield f"line {number} has {len(line)} characters"
+
+
+def snake(name: str) -> str:
+    return re.sub(r"(?<=[a-z0-9])(?=[A-Z])", "_", name).lower()
+
+
+def names_its_item(stem: str, text: str) -> bool:
+    """Whether a documented public item has the file's name, in one number or the other: its doc comment is the head then."""
+    items = [snake(found[2]) for found in ITEM.finditer(text)]
+    wanted = {stem, stem.rstrip("s"), stem + "s"}
+    return any(name in wanted or any(name.endswith("_" + word) for word in wanted) for name in items)
+
+
+def headless(stem: str, text: str) -> Iterator[str]:
+    """A file that begins with no `//!` and has no item after which it is named."""
+    if not text.startswith("//!") and not names_its_item(stem, text):
+        yield "begins with no `//!`, and no documented public item has its name"
+
+
+def lemmas(text: str) -> List[str]:
+    """The names of what a page proves: each has a line that states it, and one that begins with its name and is its proof."""
+    lines = text.split("\n")
+    found = []
+    for number, line in enumerate(lines):
+        stated = STATED.match(line)
+        if not stated:
+            continue
+        proof = re.compile(rf"{stated[1]}{re.escape(stated[2])}(?= )(?! :).*(?<!;)$")
+        if any(proof.match(later) for later in lines[number + 1 :]):
+            found.append(stated[2])
+    return found
+
+
+def misnamed(stem: str, text: str) -> Iterator[str]:
+    """A page of lemmas under another name, or a page without any that is named after them."""
+    found, named = lemmas(text), re.search(r"(Laws|Lemmas)$", stem)
+    if found and not named:
+        yield f"holds lemmas ({', '.join(found[:3])}), and its name ends in neither Laws nor Lemmas"
+    if not found and stem.endswith("Lemmas"):
+        yield "is named after lemmas, and holds none"
+    if not found and stem.endswith("Laws") and not re.search(r": Type 0$", text, re.MULTILINE):
+        yield "is named after laws, and states none"
+
+
+Rule = Callable[[str, str], Iterator[str]]
+# Each rule with its files, those that it passes over, and a file in which it has to find a fault.
+RULES: Dict[str, Tuple[Rule, str, Tuple[str, ...], Tuple[str, str]]] = {
+    "comments": (lambda stem, text: long_comments(text), "crates/*/src/**/*.rt", LONG, ("a", "    /// " + "a" * 113)),
+    "heads": (headless, "crates/*/src/**/*.rt", HEADLESS, ("walks", "/// A step.\npub fn step() {}\n")),
+    "lemmas": (misnamed, "crates/*/specs/*.antt", MIXED, ("Facts", "pub same : 1 ≡ 1\nsame = refl\n")),
+    "pages of lemmas": (misnamed, "crates/*/specs/*.antt", MIXED, ("KeptLemmas", "abbrev pub kept : ℕ\nkept = 1\n")),
+}
+
+
+def faults() -> Iterator[str]:
+    for rule, pattern, passed, planted in RULES.values():
+        if not list(rule(*planted)):
+            yield f"a planted fault is not found: {planted}"
+        for path in sorted(TOP.glob(pattern)):
+            name = str(path.relative_to(TOP))
+            if "out" in path.relative_to(TOP).parts:
+                continue
+            wrong = list(rule(path.stem, path.read_text(encoding="utf-8")))
+            if name in passed and not wrong:
+                yield f"{name} is as it has to be, and is passed over still"
+            if name not in passed:
+                yield from (f"{name}: {why}" for why in wrong)
+        yield from (f"{name} is not there, and is passed over" for name in passed if not (TOP / name).exists())
+
+
+def main() -> None:
+    found = sorted(set(faults()))
+    if found:
+        sys.exit("\n".join(found))
+
+
+main()
