@@ -12,81 +12,36 @@ from typing import Callable, Dict, Iterator, List, Tuple
 TOP = pathlib.Path(__file__).resolve().parents[2]
 MOST = 120
 # A public item with the line above it.
-ITEM = re.compile(r"^( *///[^\n]*|#\[[^\n]*)\npub (?:\w+ )*?(?:struct|enum|trait|fn|const) (\w+)", re.MULTILINE)
+ITEM = re.compile(r"^( *///[^\n]*|#\[[^\n]*)\npub(?:\(\w+\))? (?:\w+ )*?(?:struct|enum|trait|fn|const) (\w+)", re.MULTILINE)
 # The line that states what a lemma proves, and that of its proof; a definition begins with `abbrev`, `record` or `data`.
 STATED = re.compile(r"^( *)(?:pub )?([^\s():,={}\[\];]+) :(?: |$)")
 # What is still otherwise: sources with longer comments, sources without heads, and pages that hold definitions beside lemmas, or lemmas under
 # the name of a definition. What no longer is so has to be dropped here; nothing is to be added.
 LONG: Tuple[str, ...] = (
-    "crates/certificate_text/src/offer.rt",
     "crates/cli/src/mirroring.rt",
     "crates/cli/src/program.rt",
     "crates/cli/src/spellings.rt",
-    "crates/cpu_list/src/lib.rt",
-    "crates/cpu_list/src/rising.rt",
-    "crates/network_simplex/src/entering.rt",
-    "crates/network_simplex/src/lib.rt",
-    "crates/network_simplex/src/pivots.rt",
-    "crates/network_simplex/src/proposal.rt",
-    "crates/network_simplex/src/tree.rt",
-    "crates/solution/src/quick.rt",
-    "crates/transport/src/augment.rt",
-    "crates/transport/src/solver.rt",
 )
 HEADLESS: Tuple[str, ...] = (
-    "crates/byte_output/src/output.rt",
-    "crates/certificate/src/limits.rt",
-    "crates/certificate_text/src/checking.rt",
-    "crates/certificate_text/src/decimal.rt",
-    "crates/certificate_text/src/line_words.rt",
-    "crates/certificate_text/src/list_word.rt",
-    "crates/certificate_text/src/reading.rt",
-    "crates/certificate_text/src/word_pairs.rt",
-    "crates/demand/src/lists.rt",
-    "crates/demand/src/quota.rt",
-    "crates/json_text/src/lookup.rt",
-    "crates/json_text/src/parsing.rt",
     "crates/program_io/src/reading.rt",
-    "crates/rows/src/row.rt",
-    "crates/slit/src/entries.rt",
-    "crates/slit/src/header.rt",
-    "crates/twins/src/parts.rt",
-    "crates/twins/src/span_list.rt",
-    "crates/twins/src/spans.rt",
 )
 MIXED: Tuple[str, ...] = (
-    "crates/apply_plan/specs/KernelFacts.antt",
     "crates/byte_output/specs/Digits.antt",
     "crates/byte_output/specs/Sending.antt",
     "crates/certificate/specs/Apart.antt",
     "crates/certificate/specs/ApartTest.antt",
-    "crates/certificate/specs/Cpus.antt",
-    "crates/certificate/specs/Offers.antt",
     "crates/certificate/specs/Packed.antt",
-    "crates/certificate/specs/RisingNumbers.antt",
-    "crates/certificate/specs/Sums.antt",
-    "crates/certificate/specs/Tests.antt",
-    "crates/certificate/specs/TwoCosts.antt",
     "crates/certificate/specs/WeightsCode.antt",
     "crates/certificate_text/specs/DraftView.antt",
     "crates/cgroup_tree/specs/First.antt",
-    "crates/cpu_list/specs/FirstFaults.antt",
-    "crates/cpu_list/specs/ItemFaults.antt",
     "crates/cpu_set/specs/ListedSets.antt",
-    "crates/cpu_set/specs/Pointwise.antt",
-    "crates/cpu_set/specs/SetRanges.antt",
     "crates/cpu_set/specs/Those.antt",
-    "crates/faults/specs/Tests.antt",
     "crates/machine/specs/CoreCounts.antt",
     "crates/machine/specs/CoreSums.antt",
     "crates/node/specs/Listed.antt",
     "crates/node/specs/NodeState.antt",
     "crates/program_io/specs/Taking.antt",
-    "crates/rows/specs/OfferSets.antt",
-    "crates/rows/specs/PartLimits.antt",
-    "crates/rows/specs/PartRising.antt",
     "crates/script/specs/Written.antt",
-    "crates/tagged_sets/specs/RangeSets.antt",
     "crates/tools/specs/Start.antt",
 )
 

@@ -21,7 +21,7 @@ use Rattle.apply_plan.specs.Targets.{Targets, holders_of, IsHandover, IsPlaced, 
 use Rattle.apply_plan.specs.DueWrite.{held, kept_of, must_release, must_move, release_of, move_of, due, written, progress_of, Steps, writes_of, writes_to_come, HasTarget, HaveTargets, IsBetween, Between, Lowers, made_by_step, Spends}
 use Rattle.apply_plan.specs.Leaves.{KeepsRest}
 use Rattle.apply_plan.specs.ListLemmas.{all_map, find_none, find_among, sum_bounded}
-use Rattle.apply_plan.specs.KernelFacts.{with_request, is_write, stands}
+use Rattle.apply_plan.specs.KernelFactLemmas.{with_request, is_write, stands}
 use Rattle.apply_plan.specs.WriteLemmas.{holds_target}
 use Rattle.apply_plan.specs.StepLemmas.{waits_at_most, released_safe, released_lowers, moved_safe, moved_lowers, stays_between, keeps_between}
 use Rattle.apply_plan.specs.DueLemmas.{Due, Releases, Moves, Rests, due_is}

@@ -11,7 +11,7 @@ pub mod Finishes
 pub mod Walks
 pub mod Effects
 pub mod ListLemmas
-pub mod KernelFacts
+pub mod KernelFactLemmas
 pub mod WriteLemmas
 pub mod StepLemmas
 pub mod DueLemmas
