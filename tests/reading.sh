@@ -19,7 +19,7 @@ differs() {  # FILE SED-SCRIPT
 # A definition that rests on one more, a list with a row less, a figure, and a clause that is quoted as it does not stand.
 differs crates/certificate/specs/IsLeast.antt 's/^  pub least : /  pub whole : cost [] [] ≡ cost [] []\n&/'
 differs docs/reading.md '0,/^| \[`certificate` `Weight`\]/{/^| \[`certificate` `Weight`\]/d}'
-differs README.md 's/^\(To trust a yes .* read \)[0-9]*/\17/'
+differs README.md 's/^\(| the headline, of one .* | \)[0-9]*\( | [0-9]* |\)$/\17\2/'
 differs docs/reading.md 's/^\(| the headline, over all runs .* | \)[0-9]*\( | [0-9,]* | [0-9]* | *|\)$/\17\2/'
 differs docs/reading.md 's/^    ensures least .*/    ensures least { OnOk result (IsPlan problem.now plan.now) }/'
 # A definition in a module of a module that rests on one less, and a condition that goes by another name.

@@ -17,7 +17,7 @@ LINK = re.compile(r"\[[^\]]*\]\(([^)\s]+)\)")
 BLOCK = re.compile(r"^```(\w*)\n(.*?)^```$", re.DOTALL | re.MULTILINE)
 # What a built checkout has and a fresh one has not.
 MADE = re.compile(r"/out(/|$)")
-README_BYTES = 12_000
+README_LINES = 200
 
 
 def pages():
@@ -176,9 +176,9 @@ def main():
     wrong += clauses(texts[TOP / "docs/proved.md"])
     wrong += transcripts(texts)
     wrong += [f"CHANGELOG.md: {what}" for what in version(texts[TOP / "CHANGELOG.md"])]
-    size = len(texts[TOP / "README.md"].encode())
-    if size > README_BYTES:
-        wrong.append(f"README.md has {size} bytes, and {README_BYTES} are the most")
+    lines = texts[TOP / "README.md"].count("\n")
+    if lines > README_LINES:
+        wrong.append(f"README.md has {lines} lines, and {README_LINES} are the most")
     if wrong:
         sys.exit("\n".join(wrong))
     print(f"{len(texts)} pages looked through")

@@ -257,15 +257,24 @@ def figures(found):
         yield f"| {says} | {name} of `{crate}` | {len(definitions)} | {sources.size(definitions):,} | {pages} | {views} |"
 
 
-def sentence(found):
+def believed(found):
     """How little that is, as README.md says it."""
     def lines(title, key="definitions", without=frozenset()):
         return f"{found[title]['sources'].size(found[title][key] - without):,}"
 
+    yield "| To believe | one reads so many lines of definitions | and so many on its types |"
+    yield "|---|---|---|"
+    for title, says in BELIEVED.items():
+        yield f"| {says} | {lines(title)} | {lines(title, 'views')} |"
     added = lines("rebalance_told", without=found["rebalance"]["definitions"])
-    yield f"To trust a yes to a certificate in memory, read {lines('check')} lines of definitions, and {lines('check', 'views')} on its types; to a text"
-    yield f"{lines('check_text')} and {lines('check_text', 'views')}. The headline of a rebalance takes {lines('rebalance')} and {lines('rebalance', 'views')}; `told`, by which a shortage names"
-    yield f"containers, adds {added}. They have no precondition, so they always hold. [docs/reading.md](docs/reading.md) lists them."
+    yield f"| besides, whom a shortage names (its clause `told`) | {added} more | |"
+
+
+BELIEVED = {
+    "check": "a yes of the check, to a certificate in memory",
+    "check_text": "a yes of `numarun check`, to a text",
+    "rebalance": "the headline, of one `rebalance`",
+}
 
 
 SAYS = {
@@ -365,7 +374,7 @@ def main():
         if "--list" in sys.argv:
             for place in sorted(definitions):
                 print(title, *place)
-    sections["figures"], sections["believe"] = "\n".join(figures(found)), "\n".join(sentence(found))
+    sections["figures"], sections["believe"] = "\n".join(figures(found)), "\n".join(believed(found))
     wrong = []
     for file, names in (("docs/reading.md", [name for name in sections if name != "believe"]), ("README.md", ["believe"])):
         path = TOP / file
