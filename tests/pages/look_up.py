@@ -49,7 +49,8 @@ def paths(text):
     shell = "\n".join(body for kind, body in BLOCK.findall(text) if kind == "sh")
     named = PATH.findall(re.sub(BLOCK, "", text)) + re.findall(r"(?<![\w./-])((?:%s)/[\w./+-]+)" % "|".join(FOLDERS[:-1]), shell)
     for name in named:
-        if not MADE.search(name) and "NAME" not in name and "CRATE" not in name and not (TOP / name).exists():
+        is_case = (TOP / "tests" / f"{name}.py").exists()  # a test and one of its cases, as tests/run has them
+        if not MADE.search(name) and "NAME" not in name and "CRATE" not in name and not (TOP / name).exists() and not is_case:
             yield f"{name} is not there"
 
 
@@ -90,15 +91,15 @@ def with_index(text):
 
 
 def scripts(text):
-    """Scripts of tests/ that tests/README.md or tests/all.sh lack."""
-    run = (TOP / "tests/all.sh").read_text(encoding="utf-8")
+    """Scripts of tests/ that tests/README.md or the table of tests/run lack."""
+    run = (TOP / "tests/run").read_text(encoding="utf-8")
     for path in sorted((TOP / "tests").glob("*.sh")):
         if path.name == "all.sh" or path.name.startswith("build-"):
             continue
         if f"| `{path.name}` |" not in text:
             yield f"{path.name} has no row"
-        if f"bash tests/{path.name}\n" not in run:
-            yield f"{path.name} is not run by tests/all.sh"
+        if f'Test("{path.stem}"' not in run:
+            yield f"{path.name} is not run by tests/run"
 
 
 def words(*patterns):
@@ -111,7 +112,7 @@ def words(*patterns):
 
 def names(texts):
     """Names of code in the pages that stand nowhere in it."""
-    known = words("crates/*/src/**/*.rt", "crates/*/specs/*.antt", "crates/*/proofs/*.antt", "tests/**/*.py", "tests/*.sh", "crates.txt")
+    known = words("crates/*/src/**/*.rt", "crates/*/specs/*.antt", "crates/*/proofs/*.antt", "tests/**/*.py", "tests/*.sh", "tests/run", "crates.txt")
     for page in ("docs/proved.md", "docs/architecture.md", "docs/reading.md", "docs/glossary.md", "CONTRIBUTING.md", "tests/README.md"):
         for name in re.findall(r"`([^`\n]+)`", re.sub(BLOCK, "", texts[TOP / page])):
             parts = name.split("::")
