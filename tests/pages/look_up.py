@@ -21,7 +21,7 @@ README_LINES = 200
 
 
 def pages():
-    found = [*TOP.glob("*.md"), *(TOP / "docs").glob("*.md"), *(TOP / f / "README.md" for f in ("examples", "operators", "bench", "benches", "tests"))]
+    found = [*TOP.glob("*.md"), *(TOP / "docs").rglob("*.md"), *(TOP / f / "README.md" for f in ("examples", "operators", "bench", "benches", "tests"))]
     return {path: path.read_text(encoding="utf-8") for path in sorted(found)}
 
 
