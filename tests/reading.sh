@@ -8,7 +8,7 @@ python3 -B "$top/tests/reading/closure.py"
 copy=$(mktemp -d)
 trap 'rm -rf "$copy"' EXIT
 differs() {  # FILE SED-SCRIPT
-    (cd "$top" && tar c crates.txt README.md docs/reading.md tests/reading crates/*/src crates/*/specs) | tar x -C "$copy"
+    (cd "$top" && tar c crates.txt README.md docs/reading.md tests/reading tests/pages crates/*/src crates/*/specs) | tar x -C "$copy"
     sed -i "$2" "$copy/$1"
     if cmp -s "$top/$1" "$copy/$1"; then echo "reading.sh: '$2' changes nothing in $1" >&2; exit 1; fi
     if python3 -B "$copy/tests/reading/closure.py" > /dev/null 2>&1; then

@@ -113,7 +113,7 @@ def words(*patterns):
 def names(texts):
     """Names of code in the pages that stand nowhere in it."""
     known = words("crates/*/src/**/*.rt", "crates/*/specs/*.antt", "crates/*/proofs/*.antt", "tests/**/*.py", "tests/*.sh", "tests/run", "crates.txt")
-    for page in ("docs/proved.md", "docs/architecture.md", "docs/reading.md", "docs/glossary.md", "CONTRIBUTING.md", "tests/README.md"):
+    for page in ("docs/proved.md", "docs/claims.md", "docs/architecture.md", "docs/reading.md", "docs/glossary.md", "CONTRIBUTING.md", "tests/README.md"):
         for name in re.findall(r"`([^`\n]+)`", re.sub(BLOCK, "", texts[TOP / page])):
             parts = name.split("::")
             if all(re.fullmatch(r"[A-Za-z_]\w*", part) for part in parts) and not name.startswith("NAME"):
@@ -121,17 +121,17 @@ def names(texts):
 
 
 def clauses(text):
-    """Names behind a claim of docs/proved.md that are no clause, function or definition of its crate."""
-    for section in text.split("\n### ")[1:]:
+    """Names behind a claim of docs/claims.md that are no clause, function or definition of its crate."""
+    for section in text.split("\n## ")[1:]:
         title, _, body = section.partition("\n")
         of = [crate.strip() for crate in title.split(",")]
         there = "\n".join(path.read_text(encoding="utf-8") for crate in of for kind in ("src/**/*.rt", "specs/*.antt")
                           for path in TOP.glob(f"crates/{crate}/{kind}"))
-        for brackets in re.findall(r"\(([^()]*`[^()]*)\)", body.split("\n## ")[0]):
+        for brackets in re.findall(r"\(([^()]*`[^()]*)\)", body):
             for name in re.findall(r"`([a-z_]+)`", brackets):
                 if not re.search(rf"\b(ensures|fn|mod|pub|abbrev) {name}\b", there) and not (TOP / "crates" / name).is_dir():
                     if not re.search(rf"specs\.\w+\.\{{[^}}]*\b{name}\b", there):
-                        yield f"docs/proved.md: {title}: {name} is no clause, function or definition there"
+                        yield f"docs/claims.md: {title}: {name} is no clause, function or definition there"
 
 
 def transcripts(texts):
@@ -174,7 +174,7 @@ def main():
         wrong.append("docs/DECISIONS.md: its index is another; make it anew by: python3 -B tests/pages/look_up.py --write")
     wrong += [f"tests/README.md: {what}" for what in scripts(texts[TOP / "tests/README.md"])]
     wrong += names(texts)
-    wrong += clauses(texts[TOP / "docs/proved.md"])
+    wrong += clauses(texts[TOP / "docs/claims.md"])
     wrong += transcripts(texts)
     wrong += [f"CHANGELOG.md: {what}" for what in version(texts[TOP / "CHANGELOG.md"])]
     lines = texts[TOP / "README.md"].count("\n")

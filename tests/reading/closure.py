@@ -1,8 +1,9 @@
 """Which definitions a clause rests on: followed by name from the clause, through the imports of src/ and specs/.
 
-closure.py          fails where docs/reading.md or README.md differ from what it finds
-closure.py --write  writes the lists and figures into both, between their markers
-closure.py --list   prints each definition of each clause with its place
+closure.py                fails where docs/reading.md or README.md differ from what it finds
+closure.py --write        writes the lists and figures into both, between their markers
+closure.py --list         prints each definition of each clause with its place
+closure.py --text CLAUSE  prints the definitions of one, as check or rebalance, in an order to read them, with comments and texts
 
 What is followed: the words of the clause, by the `ghost use` lines of its file; of each definition the words of its text,
 by the `use` lines of its page. What a name in a type's declaration stands for (src/) is listed and not followed.
@@ -10,9 +11,12 @@ by the `use` lines of its page. What a name in a type's declaration stands for (
 
 import pathlib
 import re
+import signal
 import sys
 
 TOP = pathlib.Path(__file__).resolve().parents[2]
+sys.path[:0] = [str(TOP / "tests/pages")]
+import specs
 WORD = re.compile(r"[A-Za-z_][\w'-]*")
 HEAD = re.compile(r"^(?:(?:abbrev|unfoldable|record|data|pub) )*([A-Za-z_][\w'-]*)")
 INNER = re.compile(r"^ +(?:pub )?(?:abbrev|unfoldable|record|data) ")
@@ -337,6 +341,18 @@ def by_crate(places):
     return "; ".join(f"{', '.join(n)} of `{c}`" for c, n in kept) or "none"
 
 
+def print_text(found):
+    """The definitions of a clause, page by page, each behind all that it names."""
+    signal.signal(signal.SIGPIPE, signal.SIG_DFL)  # who reads it may have seen enough
+    sources = found["sources"]
+    for (crate, page), names in in_order(sources, found["definitions"]):
+        path = TOP / "crates" / crate / "specs" / f"{page.replace('.', '/')}.antt"
+        print(f"## {path.relative_to(TOP)}\n")
+        for definition in specs.definitions(specs.lines_of(path)):
+            if definition.name in names:
+                print("\n".join([*(f"-- {line}" for line in definition.comment), *definition.text, ""]))
+
+
 def marked(name):
     return f"<!-- {name}: by tests/reading/closure.py -->", f"<!-- end of {name} -->"
 
@@ -374,6 +390,10 @@ def main():
         if "--list" in sys.argv:
             for place in sorted(definitions):
                 print(title, *place)
+    if "--text" in sys.argv:
+        title = sys.argv[-1]
+        print_text(found[title]) if title in found else sys.exit(f"no such clause; there are {', '.join(found)}")
+        return
     sections["figures"], sections["believe"] = "\n".join(figures(found)), "\n".join(believed(found))
     wrong = []
     for file, names in (("docs/reading.md", [name for name in sections if name != "believe"]), ("README.md", ["believe"])):
