@@ -1,9 +1,5 @@
-"""What the pages name is there: links with their headings, paths, names of code, clauses behind claims, crates, the index of the
-decisions, transcripts, the version; and no crate cites the proofs of another.
-
-look_up.py          fails where something is not there
-look_up.py --write  makes the index of docs/DECISIONS.md anew
-"""
+"""What the pages name is there: links with their headings, paths, names of code, clauses behind claims, crates, transcripts, the
+version; each decision has a heading of its own; README.md is short; and no crate cites the proofs of another."""
 
 import pathlib
 import re
@@ -72,22 +68,11 @@ def cited_proofs():
                     yield f"{path.relative_to(TOP)} names the proofs of {of}"
 
 
-def index(text):
-    """The index of the decisions: a row for each section, with what begins its paragraphs."""
-    rows = ["| Section | Decisions |", "|---|---|"]
-    for section in text.split("\n## ")[1:]:
-        title, _, body = section.partition("\n")
-        begins = re.findall(r"^\*\*([^*]+?)\*\*", body, re.MULTILINE)
-        link = next(iter(headings(f"## {title}")))
-        rows.append(f"| [{title}](#{link}) | {'; '.join(name.replace(chr(10), ' ').rstrip('.,') for name in begins)} |")
-    return "\n".join(rows)
-
-
-def with_index(text):
-    """The page with its index made anew."""
-    intro, _, behind = text.partition("\n## ")
-    kept = "\n".join(line for line in intro.rstrip().splitlines() if not line.startswith("|")).rstrip()
-    return f"{kept}\n\n{index(text)}\n\n## {behind}"
+def decisions(text):
+    """Decisions that can't be linked: whose heading is that of another one too, or that have none."""
+    found = [next(iter(headings(line))) for line in re.sub(BLOCK, "", text).splitlines() if line.startswith("### ")]
+    yield from (f"#{name} is the heading of two decisions" for name in sorted(set(found)) if found.count(name) > 1)
+    yield from (f"{line[:40]}.. has no heading" for line in text.splitlines() if line.startswith("**"))
 
 
 def scripts(text):
@@ -167,11 +152,7 @@ def main():
         wrong += [f"{path.relative_to(TOP)}: {what}" for what in [*links(path, text, texts), *paths(text)]]
     wrong += [f"docs/architecture.md: {what}" for what in crates(texts)]
     wrong += [f"docs/architecture.md: {what}, and no crate cites lemmas in the proofs of another" for what in cited_proofs()]
-    decisions = TOP / "docs/DECISIONS.md"
-    if "--write" in sys.argv:
-        decisions.write_text(with_index(texts[decisions]), encoding="utf-8")
-    elif texts[decisions] != with_index(texts[decisions]):
-        wrong.append("docs/DECISIONS.md: its index is another; make it anew by: python3 -B tests/pages/look_up.py --write")
+    wrong += [f"docs/DECISIONS.md: {what}" for what in decisions(texts[TOP / "docs/DECISIONS.md"])]
     wrong += [f"tests/README.md: {what}" for what in scripts(texts[TOP / "tests/README.md"])]
     wrong += names(texts)
     wrong += clauses(texts[TOP / "docs/claims.md"])
