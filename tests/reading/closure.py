@@ -293,7 +293,7 @@ SAYS = {
     "scripts_serve_configs": "the same, from a script's text and the configs' bytes",
     "run_mirrored": "`run --cgroup`: what the tree's files are asked for, and what they then have",
     "boot_mirrored": "that it begins so, at this root and on this machine",
-    "do_run_mirrored": "all that `run --cgroup` does, by its arguments, files and streams",
+    "do_run_mirrored": "what `run --cgroup` does up to the end of its script, by its arguments, files and streams",
 }
 
 
