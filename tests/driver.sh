@@ -1,5 +1,6 @@
 #!/usr/bin/env bash
-# Tries tests/run, which runs the other tests, over made ones; and its types, where mypy is there or can be installed.
+# Tries tests/run, which runs the other tests, over made ones; and its types and those of what reads the pages, where mypy is there or
+# can be installed.
 set -euo pipefail
 cd "$(dirname "$0")/.."
 if ! command -v mypy >/dev/null; then
@@ -7,8 +8,9 @@ if ! command -v mypy >/dev/null; then
     { apt-get -qq update && apt-get -qq install -y --no-install-recommends mypy; } >/dev/null 2>&1 || true
 fi
 if command -v mypy >/dev/null; then
-    mypy --strict --cache-dir=/dev/null tests/run
-    mypy --strict --cache-dir=/dev/null tests/driver/cases.py
+    for script in tests/run tests/driver/cases.py tests/pages/imports.py tests/pages/look_up.py tests/pages/rows.py; do
+        mypy --strict --cache-dir=/dev/null "$script"
+    done
 else
     echo "driver: the types are passed over: there is no mypy, and it can't be installed"
 fi

@@ -1,33 +1,36 @@
 """What the pages name is there: links with their headings, paths, names of code, clauses behind claims, crates, transcripts, the
 version; each decision has a heading of its own; README.md is short; and no crate cites the proofs of another."""
 
+from __future__ import annotations
+
 import pathlib
 import re
 import sys
+from typing import Iterator
 
 TOP = pathlib.Path(__file__).resolve().parents[2]
 # Folders at the top that a path in backticks may begin with.
 FOLDERS = ("crates", "docs", "tests", "examples", "operators", "benches", "bench", ".ci")
 PATH = re.compile(r"`((?:%s)/[\w./+-]*)`" % "|".join(map(re.escape, FOLDERS)))
 LINK = re.compile(r"\[[^\]]*\]\(([^)\s]+)\)")
-BLOCK = re.compile(r"^```(\w*)\n(.*?)^```$", re.DOTALL | re.MULTILINE)
+BLOCK = re.compile(r"^ *```(\w*)\n(.*?)^ *```$", re.DOTALL | re.MULTILINE)
 # What a built checkout has and a fresh one has not.
 MADE = re.compile(r"/out(/|$)")
 README_LINES = 200
 
 
-def pages():
+def pages() -> dict[pathlib.Path, str]:
     found = [*TOP.glob("*.md"), *(TOP / "docs").rglob("*.md"), *(TOP / f / "README.md" for f in ("examples", "operators", "bench", "benches", "tests"))]
     return {path: path.read_text(encoding="utf-8") for path in sorted(found)}
 
 
-def headings(text):
+def headings(text: str) -> set[str]:
     """The names of a page's headings, as links name them."""
     found = re.findall(r"^#+ (.*)$", re.sub(BLOCK, "", text), re.MULTILINE)
     return {re.sub(r"[^\w\- ]", "", heading.strip().lower()).replace(" ", "-") for heading in found}
 
 
-def links(path, text, texts):
+def links(path: pathlib.Path, text: str, texts: dict[pathlib.Path, str]) -> Iterator[str]:
     """Links that lead nowhere."""
     for link in LINK.findall(re.sub(BLOCK, "", text)):
         if re.match(r"[a-z]+:", link):
@@ -40,7 +43,7 @@ def links(path, text, texts):
             yield f"{link}: no such heading"
 
 
-def paths(text):
+def paths(text: str) -> Iterator[str]:
     """Paths in backticks, and words of shell blocks, that are not there."""
     shell = "\n".join(body for kind, body in BLOCK.findall(text) if kind == "sh")
     named = PATH.findall(re.sub(BLOCK, "", text)) + re.findall(r"(?<![\w./-])((?:%s)/[\w./+-]+)" % "|".join(FOLDERS[:-1]), shell)
@@ -50,7 +53,7 @@ def paths(text):
             yield f"{name} is not there"
 
 
-def crates(texts):
+def crates(texts: dict[pathlib.Path, str]) -> Iterator[str]:
     """Crates that the map lacks, or that it has and crates.txt has not."""
     listed = re.findall(r"^(\w+):", (TOP / "crates.txt").read_text(encoding="utf-8"), re.MULTILINE)
     mapped = re.findall(r"^\| `(\w+)` \|", texts[TOP / "docs/architecture.md"].split("\n## ")[0], re.MULTILINE)
@@ -58,7 +61,7 @@ def crates(texts):
     yield from (f"{name} is no crate" for name in mapped if name not in listed)
 
 
-def cited_proofs():
+def cited_proofs() -> Iterator[str]:
     """Proofs of a crate here that another crate names."""
     listed = re.findall(r"^(\w+):", (TOP / "crates.txt").read_text(encoding="utf-8"), re.MULTILINE)
     for name in listed:
@@ -68,14 +71,14 @@ def cited_proofs():
                     yield f"{path.relative_to(TOP)} names the proofs of {of}"
 
 
-def decisions(text):
+def decisions(text: str) -> Iterator[str]:
     """Decisions that can't be linked: whose heading is that of another one too, or that have none."""
     found = [next(iter(headings(line))) for line in re.sub(BLOCK, "", text).splitlines() if line.startswith("### ")]
     yield from (f"#{name} is the heading of two decisions" for name in sorted(set(found)) if found.count(name) > 1)
     yield from (f"{line[:40]}.. has no heading" for line in text.splitlines() if line.startswith("**"))
 
 
-def scripts(text):
+def scripts(text: str) -> Iterator[str]:
     """Scripts of tests/ that tests/README.md or the table of tests/run lack."""
     run = (TOP / "tests/run").read_text(encoding="utf-8")
     for path in sorted((TOP / "tests").glob("*.sh")):
@@ -87,7 +90,7 @@ def scripts(text):
             yield f"{path.name} is not run by tests/run"
 
 
-def words(*patterns):
+def words(*patterns: str) -> set[str]:
     """All words of the files of these patterns."""
     found = set()
     for path in (path for pattern in patterns for path in TOP.glob(pattern) if path.is_file()):
@@ -95,7 +98,7 @@ def words(*patterns):
     return found
 
 
-def names(texts):
+def names(texts: dict[pathlib.Path, str]) -> Iterator[str]:
     """Names of code in the pages that stand nowhere in it."""
     known = words("crates/*/src/**/*.rt", "crates/*/specs/*.antt", "crates/*/proofs/*.antt", "tests/**/*.py", "tests/*.sh", "tests/run", "crates.txt")
     for page in ("docs/proved.md", "docs/claims.md", "docs/architecture.md", "docs/reading.md", "docs/glossary.md", "CONTRIBUTING.md", "tests/README.md"):
@@ -105,7 +108,7 @@ def names(texts):
                 yield from (f"{page}: {name} is nowhere" for part in parts if part not in known)
 
 
-def clauses(text):
+def clauses(text: str) -> Iterator[str]:
     """Names behind a claim of docs/claims.md that are no clause, function or definition of its crate."""
     for section in text.split("\n## ")[1:]:
         title, _, body = section.partition("\n")
@@ -119,7 +122,7 @@ def clauses(text):
                         yield f"docs/claims.md: {title}: {name} is no clause, function or definition there"
 
 
-def transcripts(texts):
+def transcripts(texts: dict[pathlib.Path, str]) -> Iterator[str]:
     """Answers that the pages show and that are not those of the scripts."""
     scripts = TOP / "examples/scripts"
     first = [body for kind, body in BLOCK.findall(texts[TOP / "README.md"]) if not kind]
@@ -137,7 +140,7 @@ def transcripts(texts):
             yield f"examples/README.md: the transcript is not examples/scripts/{file}"
 
 
-def version(text):
+def version(text: str) -> Iterator[str]:
     """That the newest release of the changelog has the version that the program prints."""
     release = re.search(r"^## \[([0-9.]+)\]", text, re.MULTILINE)
     source = (TOP / "crates/cli/src/command_line.rt").read_text(encoding="utf-8")
@@ -146,7 +149,7 @@ def version(text):
         yield "the newest release is not the version that the program prints"
 
 
-def main():
+def main() -> None:
     texts, wrong = pages(), []
     for path, text in texts.items():
         wrong += [f"{path.relative_to(TOP)}: {what}" for what in [*links(path, text, texts), *paths(text)]]
