@@ -1,9 +1,17 @@
 #!/usr/bin/env bash
-# Compares the lists of docs/reading.md and the figures of README.md with the definitions that each clause rests on, and what
-# is quoted there with the sources. Then plants a difference in a copy, each time another, which has to be found.
+# Compares the lists of docs/reading.md and the figures of README.md with the definitions that each clause rests on, what is quoted
+# there with the sources, and what is printed of a clause with its figure. Then plants a difference in a copy, each time another,
+# which has to be found.
 set -euo pipefail
 top=$(cd "$(dirname "$0")/.." && pwd)
 python3 -B "$top/tests/reading/closure.py"
+# What is printed to be read has as many lines as README.md says.
+said=$(sed -n 's/^| a yes of the check.* | \([0-9]*\) | [0-9]* |$/\1/p' "$top/README.md")
+printed=$(python3 -B "$top/tests/reading/closure.py" --text check | grep -cvE '^ *(--|$)|^##')
+if [ "$printed" != "$said" ]; then
+    echo "reading.sh: --text prints $printed lines for the check, and README.md says $said" >&2
+    exit 1
+fi
 
 copy=$(mktemp -d)
 trap 'rm -rf "$copy"' EXIT
