@@ -23,7 +23,6 @@ LONG: Tuple[str, ...] = (
     "crates/cli/src/spellings.rt",
 )
 HEADLESS: Tuple[str, ...] = (
-    "crates/program_io/src/reading.rt",
 )
 MIXED: Tuple[str, ...] = (
     "crates/byte_output/specs/Digits.antt",

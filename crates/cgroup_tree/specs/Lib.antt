@@ -10,8 +10,11 @@ pub mod Standing
 pub mod StandingLemmas
 pub mod ApartLemmas
 pub mod ChangeLemmas
-pub mod Shown
+pub mod KernelView
 pub mod Events
 pub mod Stands
 pub mod PastLemmas
 pub mod MirroredLemmas
+pub mod Room
+pub mod RoomLemmas
+pub mod LineLemmas

@@ -184,7 +184,8 @@ impl<K: Kernel + Drop> Node<K> {
     /// no plan, nothing is written. A shortage then names containers that together ask for more CPUs than the whole
     /// cores that they may have offer.
     ///
-    /// All memory is taken before the first write.
+    /// All memory is taken before the first write, the kernel's too: a mirrored one makes its paths and lines in room
+    /// that it has.
     ///
     /// ```text
     /// node.create("a", "bundle", config)?;

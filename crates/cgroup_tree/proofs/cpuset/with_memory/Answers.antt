@@ -1,7 +1,7 @@
 use Rattle.std.proofs.Common.{sym, ◌∙◌, refl}
 use Rattle.std.proofs.lemmas.Bool.{iff_false}
 use Rattle.cpuset_tree.specs.GrantedLemmas.{granted_all, granted_part}
-use Rattle.cgroup_tree.proofs.asking.with_memory.Goals as goal
+use Rattle.cgroup_tree.proofs.cpuset.with_memory.Goals as goal
 
 pub returns-then-is_empty : goal.returns-then-is_empty
 returns-then-is_empty c = sym (granted_all c.args.mems.now c.args.memory.now (sym c.meet-both.ensures ∙ c.if-is_empty.ensures.0 refl))

@@ -5,7 +5,7 @@ use Rattle.cpu_set.specs.Ids.{Ids, ids_code}
 use Rattle.kernel_model.specs.KernelState.{KernelState, kernel_code}
 
 -- the path of the root group's folder, the nodes that have memory, the model, how many writes never came to it, and the files
-pub record Shown (F : Type 0) : Type 0 where
+pub record KernelView (F : Type 0) : Type 0 where
   pub root : List ℕ
   pub memory : Ids
   pub inner : KernelState
@@ -13,8 +13,8 @@ pub record Shown (F : Type 0) : Type 0 where
   pub files : F
 
 -- it is stored as the tuple of its fields
-abbrev pub shown_code : {F : Type 0} → Coded F → Coded (Shown F)
-shown_code {F} code =
+abbrev pub kernel_view_code : {F : Type 0} → Coded F → Coded (KernelView F)
+kernel_view_code {F} code =
     code_by
     (List ℕ × (Ids × (KernelState × (ℕ × F))))
     (coded× (coded_list coded_ℕ) (coded× ids_code (coded× kernel_code (coded× coded_ℕ code))))

@@ -4,7 +4,7 @@ use Rattle.std.proofs.lemmas.List.{drop_more, get_or-drop}
 use Rattle.std.proofs.lemmas.Result.{err_from_is_err_and}
 use Rattle.byte_output.specs.Sending.{HasSent-fails, HasSent-then}
 use Rattle.program_io.specs.ErrorLine.{shown_behind, shown_byte}
-use Rattle.program_io.proofs.output.put_name.Goals as goal
+use Rattle.program_io.proofs.output.put_bytes.Goals as goal
 
 shown_more : (before : ℕ) (name : List ℕ) (i next : ℕ) → i < length name → next ≡ get_or name (i + 1) 0
     → shown_behind before (drop i name) ≡ shown_byte before (get_or name i 0) next ++ shown_behind (get_or name i 0) (drop (i + 1) name)
