@@ -33,9 +33,10 @@ pub fn start<G: Grammar, F: Opens, T: GroupTrees, R: Read + Input, W: Write, E: 
     // It is `run_program` from the arguments on.
     ensures { MatchResult arguments
         (λ given. Runs W.contents E.contents console.old console.new result (G.fails grammar.now) (G.lacks grammar.now)
-        (Asks T.asked trees.old [] trees.new) (Does W.contents E.contents console.old console.new result (F.opens files.now) (F.fails files.now) F.File.gives
-        T.Files.asked (T.finds trees.old) T.asked trees.old trees.new (IsConfigIn F.opens F.fails F.File.gives) (R.Input.gives input)
-        (R.Read.remaining input)) (map string_bytes (drop 1 given.items)))
+        (Asks T.asked trees.old [] trees.new)
+        (Does W.contents E.contents console.old console.new result (F.opens files.now) (F.fails files.now) F.File.gives
+        T.Files.asked (T.finds trees.old) T.asked trees.old trees.new (IsConfigIn F.opens F.fails F.File.gives)
+        (R.Input.gives input) (R.Read.remaining input)) (map string_bytes (drop 1 given.items)))
         (λ error. Stops W.contents E.contents console.old console.new result error × Asks T.asked trees.old [] trees.new) }
 {
     match arguments {

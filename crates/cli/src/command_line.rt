@@ -260,7 +260,10 @@ impl Grammar for CommandLine {
     ghost lacks = { λ _. ⊤ };
 
     fn matches<'a>(&self, alloc: Global, words: &'a [String]) -> Result<ArgMatches<'a>, Error> {
-        let matches = matched(alloc, words)?;
+        let matches = match matched(alloc, words) {
+            Ok(matches) => matches,
+            Err(error) => return Err(error),
+        };
         if lacks_root(&matches) {
             return Err(lacking(alloc)?);
         }

@@ -38,9 +38,10 @@ pub fn run_program<G: Grammar, F: Opens, T: GroupTrees, R: Read + Input, W: Writ
     // It does what the words ask for, over any grammar, any files, any reader and any two writers. The contract says
     // which bytes go to which stream, and the exit status of each case.
     ensures { Runs W.contents E.contents console.old console.new result (G.fails grammar.now) (G.lacks grammar.now)
-        (Asks T.asked trees.old [] trees.new) (Does W.contents E.contents console.old console.new result (F.opens files.now) (F.fails files.now) F.File.gives
-        T.Files.asked (T.finds trees.old) T.asked trees.old trees.new (IsConfigIn F.opens F.fails F.File.gives) (R.Input.gives input)
-        (R.Read.remaining input)) (map string_bytes words.now) }
+        (Asks T.asked trees.old [] trees.new)
+        (Does W.contents E.contents console.old console.new result (F.opens files.now) (F.fails files.now) F.File.gives
+        T.Files.asked (T.finds trees.old) T.asked trees.old trees.new (IsConfigIn F.opens F.fails F.File.gives)
+        (R.Input.gives input) (R.Read.remaining input)) (map string_bytes words.now) }
 {
     match parse(alloc, grammar, words) {
         Ok(asked) => dispatch(alloc, asked, files, trees, input, console),
@@ -59,8 +60,8 @@ fn dispatch<F: Opens, T: GroupTrees, R: Read + Input, W: Write, E: Write>(
 ) -> u8
     ensures { Does W.contents E.contents console.old console.new result (F.opens files.now) (F.fails files.now)
         F.File.gives
-        T.Files.asked (T.finds trees.old) T.asked trees.old trees.new (IsConfigIn F.opens F.fails F.File.gives) (R.Input.gives input)
-        (R.Read.remaining input) (asked words.entry) }
+        T.Files.asked (T.finds trees.old) T.asked trees.old trees.new (IsConfigIn F.opens F.fails F.File.gives)
+        (R.Input.gives input) (R.Read.remaining input) (asked words.entry) }
 {
     match words {
         Words::Check { file } => check_named(alloc, file.unwrap_or("-"), files, input, console),
@@ -92,8 +93,8 @@ fn run_in<F: Opens, T: GroupTrees, R: Read + Input, W: Write, E: Write>(
 ) -> u8
     ensures { Does W.contents E.contents console.old console.new result (F.opens files.now) (F.fails files.now)
         F.File.gives
-        T.Files.asked (T.finds trees.old) T.asked trees.old trees.new (IsConfigIn F.opens F.fails F.File.gives) (R.Input.gives input)
-        (R.Read.remaining input)
+        T.Files.asked (T.finds trees.old) T.asked trees.old trees.new (IsConfigIn F.opens F.fails F.File.gives)
+        (R.Input.gives input) (R.Read.remaining input)
         (run machine.now (option_map word_bytes table.entry) (option_map word_bytes root.entry) adopt) }
 {
     let mut script = input;

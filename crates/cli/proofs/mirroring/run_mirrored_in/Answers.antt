@@ -12,7 +12,7 @@ pub returns-in-Ok : goal.returns-in-Ok
 returns-in-Ok g c =
     let a = c.args in
     let site = site_of a.machine (string_bytes a.tree.root) a.tree.memory a.tree.adopt in
-    let played = c.play_mirrored in
+    let played = c.play_mirrored-end in
     inl (
       c.in-Ok.node,
       c.in-Ok.ensures.boots,
