@@ -4,7 +4,7 @@
 #        operators/install.sh --deb FOLDER
 #
 # PREFIX/bin has numarun and the scripts: numarun-agent, numarun-draw-plan, numarun-dry-run, numarun-explain,
-# numarun-hook, numarun-describe-host, numarun-describe-hwloc. PREFIX/lib/systemd/system has a unit for the agent, which is not
+# numarun-hook, numarun-describe. PREFIX/lib/systemd/system has a unit for the agent, which is not
 # enabled. PREFIX/share/man has the man page; PREFIX/share/doc/numarun has docs/formats.md and, in examples/, the bundles, machine
 # files, scripts, certificates and problems, below the names that they have here. The program is the one that PROGRAM in the
 # environment names, or the proved one of this checkout, from bash build.sh.
@@ -20,9 +20,7 @@
 set -euo pipefail
 export LC_ALL=C
 top=$(cd "$(dirname "$(realpath "$0")")/.." && pwd)
-modules=(common answers demands events groups homes mending newcomers pauses plans records release room sight slices taken waiters)
-modules=("${modules[@]/%/.py}")
-scripts=(agent.py draw-plan.py dry-run.py explain.py hook.py describe-host.sh describe-hwloc.py)
+scripts=(agent draw-plan dry-run explain hook describe)
 
 say() { echo "install.sh: $1" >&2; }
 fail() { say "$1"; exit 1; }
@@ -48,7 +46,7 @@ take_away() {
                 [ ! -d "$prefix/${name}__pycache__" ] || rmdir --ignore-fail-on-non-empty "$prefix/${name}__pycache__"
                 [ ! -d "$prefix/$name" ] || rmdir --ignore-fail-on-non-empty "$prefix/$name"
                 ;;
-            *.py) rm -f "$prefix/$name" "$prefix/lib/numarun/__pycache__/$(basename "$name" .py)".*.pyc ;;
+            *.py) rm -f "$prefix/$name" "$prefix/$(dirname "$name")/__pycache__/$(basename "$name" .py)".*.pyc ;;
             *) rm -f "$prefix/$name" ;;
         esac
     done
@@ -78,13 +76,13 @@ put() {
 put_all() {
     local name script
     put 755 "$program" bin/numarun
-    for name in "${modules[@]}"; do
-        put 644 "$top/operators/$name" "lib/numarun/$name"
+    for name in "$top"/operators/numarun_host/*.py; do
+        put 644 "$name" "lib/numarun/numarun_host/$(basename "$name")"
     done
     for script in "${scripts[@]}"; do
-        put 755 "$top/operators/$script" "lib/numarun/$script"
-        ln -sfn "../lib/numarun/$script" "$prefix/bin/numarun-${script%.*}"
-        made+="bin/numarun-${script%.*}"$'\n'
+        put 755 "$top/operators/numarun-$script" "lib/numarun/numarun-$script"
+        ln -sfn "../lib/numarun/numarun-$script" "$prefix/bin/numarun-$script"
+        made+="bin/numarun-$script"$'\n'
     done
     put 644 "$top/operators/numarun-agent.service" "$unit"
     put 644 "$top/docs/numarun.1" share/man/man1/numarun.1
@@ -141,7 +139,7 @@ if [ -n "$uninstall" ]; then
     [ -f "$list" ] || fail "$list: no such file: nothing is installed there"
     named=$(cat "$list")
     take_away <<< "$named"
-    [ ! -e /run/numarun/taken.json ] || say "the groups have what the agent gave them; operators/agent.py --release --cgroup /sys/fs/cgroup gives it back"
+    [ ! -e /run/numarun/taken.json ] || say "the groups have what the agent gave them; operators/numarun-agent --release --cgroup /sys/fs/cgroup gives it back"
     exit 0
 fi
 

@@ -66,9 +66,9 @@ def transcripts():
 
 def pictures():
     typed(command("crates/numarun/out/numarun run"))
-    typed(command("operators/draw-plan.py --before examples"))
+    typed(command("operators/numarun-draw-plan --before examples"))
     assert read(f"{TOP}/plan.svg") == read(f"{TOP}/docs/two-socket.svg")
-    assert "database" in typed(command("operators/draw-plan.py --before --text"))
+    assert "database" in typed(command("operators/numarun-draw-plan --before --text"))
 
 
 def program():
@@ -83,7 +83,7 @@ def program():
 
 def on_a_real_kernel():
     """The machine file of this machine, and a run over its tree, with a process in one of its containers."""
-    typed(command("bash operators/describe-host.sh"))
+    typed(command("operators/numarun-describe host"))
     machine = json.load(open(f"{TOP}/host.json"))
     assert machine["nodes"] == ["0-1", "2-3", "4-5", "6-7"] and machine["distances"][1] == [20, 10, 30, 20] and machine["cores"], machine
     containers = tree.Containers("/tmp/b")
@@ -115,7 +115,7 @@ def installed():
     """install.sh, and a machine file by the page's commands; hwloc makes the same one."""
     typed("operators/install.sh /usr/local")
     typed(command("mkdir -p /etc/numarun"))
-    typed(command("numarun-describe-host --cores"))
+    typed(command("numarun-describe host --cores"))
     assert read("/etc/numarun/machine.json") == read(f"{TOP}/host.json")
     line = command("lstopo --disallowed")
     if os.path.exists("/usr/bin/lstopo"):
@@ -151,12 +151,12 @@ def has_own(pid, many):
 def by_readme():
     """README's three lines, with a container of crun's."""
     pid, _ = process_of_crun("first", {"quota": 200000, "period": 100000, "mems": "1"})
-    line = command("operators/agent.py host.json")
+    line = command("operators/numarun-agent host.json")
     done.add(line)
     agent = begun(line)
     until(agent, lambda: has_own(pid, 2), "README's agent")
     assert tree.allowed(pid) == {2, 3}
-    assert typed(command("operators/dry-run.py host.json")).startswith("new would have 4"), read(OUT)
+    assert typed(command("operators/numarun-dry-run host.json")).startswith("new would have 4"), read(OUT)
     ended(agent)
     crun("delete", "--force", "first")
 
@@ -197,7 +197,7 @@ def by_the_unit():
     assert "makes room by itself" in typed("numarun-dry-run /etc/numarun/machine.json --cpus 6 --running /run/crun", status=1), read(OUT)
     assert "another agent or program has it" in typed(line.replace("$OPTIONS", ""), status=1)
     ended(agent)
-    typed("operators/agent.py --release --cgroup /sys/fs/cgroup")
+    typed("operators/numarun-agent --release --cgroup /sys/fs/cgroup")
     assert all(tree.allowed(pid) == tree.CPUS for pid in (db, eager, web)), read(OUT)
     crun("delete", "--force", "db")
     of_podman.podman("rm", "-f", "-t", "0", "eager", "web")
@@ -223,7 +223,7 @@ def package():
             file.write(f"Package: {name}\nStatus: install ok installed\nMaintainer: nobody\nArchitecture: amd64\nVersion: {version}\nDescription: there\n\n")
     typed("dpkg -i numarun_*.deb")
     assert "agent" in typed("numarun-agent --help")
-    typed("numarun-describe-host --cores > /etc/numarun/machine.json")
+    typed("numarun-describe host --cores > /etc/numarun/machine.json")
     typed("dpkg -r numarun")
     assert not shutil.which("numarun-agent", path=HERE["PATH"])
 
