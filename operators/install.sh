@@ -5,7 +5,7 @@
 #
 # PREFIX/bin has numarun and the scripts: numarun-agent, numarun-draw-plan, numarun-dry-run, numarun-explain,
 # numarun-hook, numarun-describe. PREFIX/lib/systemd/system has a unit for the agent, which is not
-# enabled. PREFIX/share/man has the man page; PREFIX/share/doc/numarun has docs/formats.md and, in examples/, the bundles, machine
+# enabled. PREFIX/share/man has the man pages; PREFIX/share/doc/numarun has docs/formats.md and, in examples/, the bundles, machine
 # files, scripts, certificates and problems, below the names that they have here. The program is the one that PROGRAM in the
 # environment names, or the proved one of this checkout, from bash build.sh.
 # Nothing but the unit names PREFIX, so that the rest may be moved. To install again is to bring it up to date: what the last
@@ -86,6 +86,9 @@ put_all() {
     done
     put 644 "$top/operators/numarun-agent.service" "$unit"
     put 644 "$top/docs/numarun.1" share/man/man1/numarun.1
+    for name in numarun-agent.8 numarun-hook.8; do
+        put 644 "$top/operators/$name" "share/man/man8/$name"
+    done
     put 644 "$top/docs/formats.md" share/doc/numarun/docs/formats.md
     while read -r name; do
         put 644 "$top/$name" "share/doc/numarun/$name"
@@ -108,7 +111,7 @@ pack() {
     [[ $version =~ ^[0-9][0-9a-z.+~]*$ ]] || fail "$program --version: no version of a package"
     architecture=$(dpkg --print-architecture)
     mkdir -p "$stage/DEBIAN" "$stage/etc/numarun"
-    gzip -9n "$stage/usr/share/man/man1/numarun.1"
+    gzip -9n "$stage"/usr/share/man/man?/numarun*
     printf 'numarun (%s) unstable; urgency=low\n\n  * The program, its scripts and its pages.\n\n -- %s  %s\n' "$version" "$maintainer" \
         "$(date -u -R -d "@${SOURCE_DATE_EPOCH:-$(stat -c %Y "$program")}")" | gzip -9n > "$document/changelog.gz"
     printf 'Format: https://www.debian.org/doc/packaging-manuals/copyright-format/1.0/\n\nFiles: *\nCopyright: %s\nLicense: see the sources\n' \

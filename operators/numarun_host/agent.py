@@ -13,7 +13,9 @@ All events that are there are told before one plan is worked out. What runs alre
 requests. A container whose group is not there is told once it is; what was refused is told again when its config changes;
 a write that failed is made again, at growing pauses. A config or a limit that changes is told as it is. Who has no place runs on
 the pool until there is room. SIGTERM ends it between two commands, and what is left is taken up by the next one; --release gives
-back what was taken. `numarun-agent status` says what the running agent knows.
+back what was taken. Before all other words may stand `status`, which says what the running agent knows (see `status --help`), `release`
+in place of --release, or `check-config`, which says whether an agent with the other words would begin. `@FILE` stands for the words
+in a file.
 
 The status is 1 where something is left undone: a line that is no event, a refusal, a shortage, a failed write. Where it is told to
 end by a signal, a container that has no room is nothing of that."""
@@ -24,15 +26,17 @@ import argparse
 import dataclasses
 import os
 import select
+import shlex
 import signal
+import subprocess
 import sys
 import tempfile
 import time
-from typing import List, Optional
+from typing import List, Optional, Sequence
 
 from .cgroups import Groups
 from .configs import LEAST, NEAR, PIN, STAY, Pin
-from .cpus import Cpus
+from .cpus import Cpus, print_list
 from .decide import answer_to_hook, at_the_end, decide, say_pool_end
 from .doing import POOL_SECONDS, Ending, Hands, PoolCommand
 from .hooks import STATUS, Hooks
@@ -63,6 +67,7 @@ examples, from the top of the repository:
   operators/numarun-agent host.json --cgroup /sys/fs/cgroup --watch /run/crun
   operators/numarun-agent --release --cgroup /sys/fs/cgroup"""
 LEAST_PAUSE = 0.01
+SUBCOMMANDS = ("status", "release", "check-config")
 
 
 class Agent:
@@ -120,20 +125,27 @@ class Agent:
             self.hands.do(line)
 
 
-def words_of() -> argparse.Namespace:
-    parser = argparse.ArgumentParser(description=__doc__, epilog=EXAMPLE, formatter_class=argparse.RawDescriptionHelpFormatter,
-                                     fromfile_prefix_chars="@")
+class Parser(argparse.ArgumentParser):
+    """Of a file that `@FILE` names each line has some words, as a shell splits them, and a comment behind #."""
+
+    def convert_arg_line_to_args(self, arg_line: str) -> List[str]:
+        return shlex.split(arg_line, comments=True)
+
+
+def words_of(told: Sequence[str]) -> argparse.Namespace:
+    parser = Parser(description=__doc__, epilog=EXAMPLE, formatter_class=argparse.RawDescriptionHelpFormatter, fromfile_prefix_chars="@")
     parser.add_argument("machine", metavar="MACHINE", nargs="?", help="the machine file")
+    parser.add_argument("--version", action="store_true", help="say which numarun it works with, and end")
     add_program(parser)
     add_containers(parser)
     add_rest(parser)
     add_records(parser)
-    words = parser.parse_args()
+    words = parser.parse_args(told)
     words.groups = [group.strip("/") for groups in words.rest for group in groups.split(",") if group.strip("/")]
     for option, said in (("--rest", words.groups), ("--release", words.release)):
         if said and not words.cgroup:
             parser.error(f"{option} is of a tree: --cgroup names it")
-    if not words.machine and not words.release:
+    if not words.machine and not words.release and not words.version:
         parser.error("no MACHINE")
     if not LEAST_PAUSE <= words.pause <= 86400 or words.rounds < 0 or words.keep < 1:
         parser.error(f"--pause is {LEAST_PAUSE} to 86400, --rounds is 0 or more, and --keep 1 or more")
@@ -215,10 +227,25 @@ def made(words: argparse.Namespace, machine: Machine, work: str, ending: Ending)
     return Agent(eyes, hands, ledger, hooks, ending)
 
 
+def check_config(words: argparse.Namespace) -> int:
+    """Whether an agent with these words would begin: what is wrong with the machine file is refused as it would be then."""
+    machine = Machine(words.machine)
+    check_program(words.program)
+    print(f"{words.machine}: {len(machine.present)} CPUs on {len(machine.nodes)} nodes, reserved {print_list(machine.reserved)}, "
+          f"and {pool_least_of(words.pool_least, machine)} are left to the pool")
+    return 0
+
+
 def main() -> int:
-    if sys.argv[1:2] == ["status"]:
-        return say_status()
-    words = words_of()
+    subcommand, told = (sys.argv[1], sys.argv[2:]) if sys.argv[1:2] and sys.argv[1] in SUBCOMMANDS else ("", sys.argv[1:])
+    if subcommand == "status":
+        return say_status(told)
+    words = words_of([*told, "--release"] if subcommand == "release" else told)
+    if words.version:
+        check_program(words.program)
+        return subprocess.run([words.program, "--version"]).returncode
+    if subcommand == "check-config":
+        return check_config(words)
     if words.release:
         slices: List[str] = words.groups
         return release(words.cgroup, words.work, slices)

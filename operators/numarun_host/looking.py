@@ -28,6 +28,7 @@ class Eyes:
         self.settings, self.source, self.online_path, self.nodes, self.groups, self.parent = settings, source, online, nodes, groups, parent
         self.sysfs = sysfs
         self.configs: Dict[str, Tuple[Stamp, Config]] = {}
+        self.found: Dict[str, Found] = {}
         self.names = Names()
         self.online = self.read_online()
 
@@ -40,7 +41,8 @@ class Eyes:
         except Refused as why:
             fault = str(why)
         told = {name: self.container(ledger, name, one) for name, one in self.source.told.items()}
-        self.configs = {name: found for name, found in self.configs.items() if name in told}
+        self.configs = {name: config for name, config in self.configs.items() if name in told}
+        self.found = {name: found for name, found in self.found.items() if name in told}
         below: Mapping[str, Tuple[str, ...]] = {}
         groups: Mapping[str, Union[Group, NoGroup]] = {}
         busy: FrozenSet[str] = frozenset()
@@ -71,8 +73,13 @@ class Eyes:
         if isinstance(group, NoGroup):
             return Missing(told, group.why)
         stopped = group.populated is False and told.folder is not None and has_ended(told.folder)
+        before = self.found.get(name)
+        if before and before.stamp == stamp and before.group is group and before.stopped == stopped:
+            return before
         device = wish_of(config, NEAR)
-        return Found(told, stamp, config, group, there.st_mtime_ns, stopped, None if device is None else node_of_device(device, self.sysfs))
+        near = None if device is None else node_of_device(device, self.sysfs)
+        found = self.found[name] = Found(told, stamp, config, group, there.st_mtime_ns, stopped, near)
+        return found
 
     def config(self, name: str, stamp: Stamp, path: str) -> Config:
         before = self.configs.get(name)

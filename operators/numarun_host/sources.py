@@ -75,7 +75,7 @@ class Folders:
     def __init__(self, paths: Sequence[str]) -> None:
         self.paths = paths
         self.told: Dict[str, Told] = {}
-        self.bundles: Dict[str, Tuple[Tuple[int, int], Optional[str]]] = {}
+        self.known: Dict[str, Tuple[Tuple[int, int], Optional[Told]]] = {}  # by its folder what was told of it, and when that had changed last
         self.folders: Tuple[Folder, ...] = ()
         self.doubles: Tuple[Double, ...] = ()
         self.wrong: List[str] = []
@@ -98,7 +98,7 @@ class Folders:
                              for name, several in found.items() for told in several if told is not chosen[name])
         self.told = chosen
         there = {told.folder for several in found.values() for told in several}
-        self.bundles = {folder: bundle for folder, bundle in self.bundles.items() if folder in there}
+        self.known = {folder: known for folder, known in self.known.items() if folder in there}
 
     def chosen(self, name: str, several: List[Told]) -> Told:
         before = self.told.get(name)
@@ -120,11 +120,12 @@ class Folders:
             found = os.stat(folder)
         except OSError:
             return None
-        stamp, bundle = self.bundles.get(folder, (None, None))
-        if stamp != (found.st_ino, found.st_mtime_ns) or bundle is None:
+        stamp, told = self.known.get(folder, (None, None))
+        if stamp != (found.st_ino, found.st_mtime_ns) or told is None:
             bundle = bundle_of(folder)
-            self.bundles[folder] = (found.st_ino, found.st_mtime_ns), bundle
-        return Told(bundle, folder) if bundle else None
+            told = Told(bundle, folder) if bundle else None
+            self.known[folder] = (found.st_ino, found.st_mtime_ns), told
+        return told
 
 
 Source = Union[Input, Folders]

@@ -6,8 +6,7 @@ from __future__ import annotations
 import argparse
 import json
 import socket
-import sys
-from typing import Dict, List, Mapping, Optional, Sequence
+from typing import Dict, List, Mapping, Sequence
 
 from .configs import at, parse_text
 from .cpus import print_list
@@ -75,11 +74,11 @@ def text_of(status: Mapping[str, object]) -> str:
     return "\n".join(lines + (["", "left undone:", *(f"  {line}" for line in others)] if others else []))
 
 
-def main(words: Optional[Sequence[str]] = None) -> int:
+def main(words: Sequence[str]) -> int:
     parser = argparse.ArgumentParser(prog="numarun-agent status", description=__doc__, formatter_class=argparse.RawDescriptionHelpFormatter)
     parser.add_argument("--agent", default="/run/numarun/hooks", metavar="PATH", help="where the agent answers: `hooks` in its --work (%(default)s)")
     parser.add_argument("--json", action="store_true", help="as the agent says it, one JSON object")
-    told = parser.parse_args(sys.argv[2:] if words is None else words)
+    told = parser.parse_args(words)
     status = ask_status(told.agent)
     print(json.dumps(status, indent=2) if told.json else text_of(status))
     return 0

@@ -17,7 +17,7 @@ from numarun_host.names import Names
 from numarun_host.placing import choose_home
 from numarun_host.seen import Group, Look, Told
 from numarun_host.telling import Turn
-from trial import check, command, end, told
+from trial import check, command, end, refuses, told
 
 
 def of(lines, *words):
@@ -363,8 +363,23 @@ def near_a_device():
     check("nodes of devices", found, {"eth0": 1, "nvme0n1": 2, "0000:3b:00.0": 3, "lo0": None, "eth9": None, "../eth0": None, "": None, "a/b": None})
 
 
+def words():
+    """Words of a file, a configuration that is looked at, and the version."""
+    site = Site()
+    with open(site.at("agent.conf"), "w") as file:
+        file.write(f"# what the agent is told\n{site.at('machine.json')}  # this machine\n--pool-least 25%\n--watch '{site.at('g')}'\n\n")
+    status, out, err = told("numarun-agent", "check-config", f"@{site.at('agent.conf')}", "--program", IN_FOLDERS)
+    check("a file of words", (status, out, err), (0, f"{site.at('machine.json')}: 8 CPUs on 1 nodes, reserved 0, and 2 are left to the pool\n", ""))
+    refuses("numarun-agent", "check-config", "no-such-file", "--program", IN_FOLDERS, says="no-such-file: No such file")
+    check("a file that is not there", told("numarun-agent", "@no-such-file")[0], 2)
+    version = subprocess.run([IN_FOLDERS, "--version"], capture_output=True).stdout.decode()
+    check("the version", told("numarun-agent", "--version", "--program", IN_FOLDERS), (0, version, ""))
+    check("release without a tree", told("numarun-agent", "release")[0], 2)
+    check("release", told("numarun-agent", "release", "--cgroup", site.at("root"), "--work", site.at("work")), (0, "", ""))
+
+
 PARTS = (between, nothing_left, slow_pool, standing_still, no_pids, told_to_end, two_folders, silent_folders, long_ids, stopped, no_pause, odd_configs, pool_floor, wishes,
-         near_a_device)
+         near_a_device, words)
 for part in PARTS:
     if not sys.argv[1:] or part.__name__ in sys.argv[1:]:
         part()

@@ -54,7 +54,8 @@ check("the commands", sorted(name for name in os.listdir(os.path.join(PREFIX, "b
 pages = [name for name in first if name.startswith("share/") and not name.endswith("/")]
 kept = [os.path.relpath(os.path.join(folder, name), TOP) for of in ("bundles", "machines", "scripts") for folder, _, names in os.walk(os.path.join(TOP, "examples", of)) for name in names]
 kept += ["docs/formats.md", "examples/caches.certificate", "examples/caches.problem", "examples/two-containers.certificate"]
-check("the pages", sorted(pages), sorted([f"share/doc/numarun/{name}" for name in kept] + ["share/man/man1/numarun.1"]))
+check("the pages", sorted(pages), sorted([f"share/doc/numarun/{name}" for name in kept] +
+      ["share/man/man1/numarun.1", "share/man/man8/numarun-agent.8", "share/man/man8/numarun-hook.8"]))
 listed = open(os.path.join(PREFIX, "lib", "numarun", "installed")).read().splitlines()
 check("the list is what is new", sorted(listed), sorted(set(first) - set(BEFORE)))
 check("the unit alone names the prefix", [name for name, told in first.items() if told and PREFIX in str(told[0])],

@@ -14,11 +14,12 @@ have() {
 }
 
 cd "$top/operators"
+programs=(numarun-agent numarun-hook numarun-dry-run numarun-explain numarun-draw-plan numarun-describe)
 if have mypy mypy; then
-    mypy --strict --no-error-summary --cache-dir=/dev/null --scripts-are-modules numarun_host $(find . -maxdepth 1 -name 'numarun-*' ! -name '*.service')
+    mypy --strict --no-error-summary --cache-dir=/dev/null --scripts-are-modules numarun_host "${programs[@]}"
 fi
 if have pyflakes3 pyflakes3; then
-    pyflakes3 numarun_host numarun-agent numarun-hook numarun-dry-run numarun-explain numarun-draw-plan numarun-describe
+    pyflakes3 numarun_host "${programs[@]}"
 fi
 python3 -B - numarun_host/*.py <<'SCRIPT'
 import ast
