@@ -43,7 +43,7 @@ from .hooks import STATUS, Hooks
 from .ledger import Ledger, Settings, is_undone
 from .links import Links
 from .log import logger
-from .notify import ENDS, READY, WORKS, notify
+from .notify import ENDS, READY, WORKS, notify, patience_of_watchdog
 from .pool import POOL_LEAST, is_pool_least, pool_least_of
 from .looking import Eyes
 from .machine import Machine
@@ -94,7 +94,7 @@ class Agent:
         signal.set_wakeup_fd(writer)
         for number in (signal.SIGTERM, signal.SIGINT):
             signal.signal(number, self.ending.tell)
-        source, turns = self.eyes.source, 0
+        source, turns, pause = self.eyes.source, 0, min(pause, patience_of_watchdog() / 2)
         while not self.ending.is_told:
             turns += 1
             if turns > 1 or isinstance(source, Input):

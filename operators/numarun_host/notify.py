@@ -9,6 +9,12 @@ import socket
 READY, WORKS, ENDS = "READY=1", "WATCHDOG=1", "STOPPING=1"
 
 
+def patience_of_watchdog() -> float:
+    """The seconds in which it wants to hear from the service, or no end of them."""
+    text = os.environ.get("WATCHDOG_USEC", "")
+    return int(text) / 1_000_000 if text.isascii() and text.isdecimal() and int(text) else float("inf")
+
+
 def notify(state: str) -> None:
     """Tells the service manager, where there is one that wants to be told."""
     path = os.environ.get("NOTIFY_SOCKET", "")

@@ -98,10 +98,10 @@ def notified():
     with socket.socket(socket.AF_UNIX, socket.SOCK_DGRAM) as door:
         door.bind(path)
         door.settimeout(30)
-        os.environ["NOTIFY_SOCKET"] = path
-        agent = Open(site)
+        os.environ.update(NOTIFY_SOCKET=path, WATCHDOG_USEC="1000000")
+        agent = Open(site, "--pause", "3600")
         heard = [door.recv(100), door.recv(100)]
-        del os.environ["NOTIFY_SOCKET"]
+        del os.environ["NOTIFY_SOCKET"], os.environ["WATCHDOG_USEC"]
         status, _ = agent.end()
         while heard[-1] == b"WATCHDOG=1":
             heard.append(door.recv(100))
