@@ -79,6 +79,9 @@ def settled(agent: Agent) -> None:
     told = sorted(name for name in world.bundles if name not in agent.ledger.containers)
     if told:
         world.wrong.append(f"{told} are not told of: {agent.ledger.problems}")
+    for name, row in agent.program.rows.items() if agent.program else ():
+        if row.count is not None and len(world.places[world.path(name)].cpus - RESERVED) != row.count:
+            world.wrong.append(f"{name} asks for {row.count} CPUs, and has {sorted(world.places[world.path(name)].cpus)}")
     before = {path: place.cpus for path, place in world.places.items()}
     for _ in range(3):
         world.now += 100
