@@ -1,5 +1,5 @@
 #!/usr/bin/env bash
-# Measures what the tables of benches/README.md and of 'Why' in README.md are filled with, each behind a line that says which:
+# Measures what the tables of benches/README.md and of 'What it gains' in README.md are filled with, each behind a line that says which:
 # figures.sh [counts|peers|times]..., all three where none is named. Counts of instructions (valgrind) and of CPUs are the same
 # whatever else the machine does, and are made by four at once; times want a machine that does nothing else. PROGRAM and TOOLS in
 # the environment are run in place of those that this builds.
@@ -44,7 +44,7 @@ peers() {
     together peers bash "$here/peers/run.sh"
     together moves bash "$here/moves/run.sh"
     wait
-    shown "README.md, 'Why', the rows 'all 5' and 'all 3'; benches/README.md, 'How peers compares'" peers
+    shown "README.md, 'What it gains', the rows 'all 5' and 'all 3'; benches/README.md, 'How peers compares'" peers
     shown "benches/README.md, 'How moves counts', the columns 'now'" moves
 }
 

@@ -7,6 +7,8 @@ import sys
 
 from program import run
 
+SECONDS = 600
+
 
 def has_valgrind():
     """Whether there is valgrind. Where it is not there it is installed by apt-get, with a line."""
@@ -20,7 +22,7 @@ def has_valgrind():
 
 def instructions(words, given):
     """How many instructions a program takes, whose status has to be 0."""
-    done = run(["valgrind", "--tool=callgrind", "--callgrind-out-file=/dev/null", *words], given)
+    done = run(["valgrind", "--tool=callgrind", "--callgrind-out-file=/dev/null", *words], given, SECONDS)
     found = re.search(rb"Collected : (\d+)", done.stderr)
     if done.returncode or not found:
         sys.exit(f"bounds: {done}")

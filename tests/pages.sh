@@ -1,5 +1,5 @@
 #!/usr/bin/env bash
-# Looks up what the pages name: each link and path, each crate, the headings of an index, the transcripts and the version; and
+# Looks up what the pages name: each link and path, each crate, the headings of decisions, the transcripts and the version; and
 # that nothing is imported which is not used.
 set -euo pipefail
 folder=$(dirname "$0")/pages

@@ -15,9 +15,9 @@ def version():
     return f"numarun {found[1]}\n".encode()
 
 
-def run(words, given=b"", **more):
+def run(words, given=b"", seconds=SECONDS, **more):
     """What came of these words, with this on standard input and both other streams kept."""
     try:
-        return subprocess.run(words, input=given, capture_output=True, timeout=SECONDS, **more)
+        return subprocess.run(words, input=given, capture_output=True, timeout=seconds, **more)
     except subprocess.TimeoutExpired:
-        sys.exit(f"{words} did not come to its end within {SECONDS} seconds; its input was {given[:1000]!r}")
+        sys.exit(f"{words} did not come to its end within {seconds} seconds; its input was {given[:1000]!r}")

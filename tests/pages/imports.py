@@ -4,6 +4,8 @@ imports.py          fails where one does
 imports.py --write  drops what is not used
 """
 
+from __future__ import annotations
+
 import pathlib
 import re
 import sys
@@ -13,14 +15,14 @@ TOP = pathlib.Path(__file__).resolve().parents[2]
 USE = re.compile(r"^(?P<head> *(?:ghost )?use [\w.]+)(?:\.\{(?P<names>.*)\}| as (?P<other>\w+))(?P<end>;?)$")
 
 
-def used(name, text):
+def used(name: str, text: str) -> bool:
     """Whether the text has the name, or of an operator each of its signs."""
     if "◌" in name:
         return all(sign in text for sign in name.split("◌") if sign)
     return re.search(r"(?<![\w'-])%s(?![\w'-])" % re.escape(name), text) is not None
 
 
-def kept(line, text):
+def kept(line: str, text: str) -> str | None:
     """The line with the names alone that the text uses, or None where there are none."""
     use = USE.match(line)
     if not use:
@@ -34,7 +36,7 @@ def kept(line, text):
     return f"{use['head']}.{{{', '.join(left)}}}{use['end']}" if left else None
 
 
-def main():
+def main() -> None:
     wrong, write = [], "--write" in sys.argv
     for path in sorted((TOP / "crates").glob("*/*/**/*")):
         if path.suffix not in (".antt", ".rt") or "out" in path.relative_to(TOP).parts:

@@ -1,101 +1,63 @@
-"""The rows of docs/definitions.md and of docs/proved.md, made from the comments in the crates.
+"""The rows of docs/claims.md, which are the comments of the crates; and that each definition has a comment.
 
-rows.py          fails where a page differs from what it makes
-rows.py --write  writes the rows into both pages
+rows.py                        fails where the page differs from what it makes, or where a comment is missing
+rows.py --write                writes the rows into the page
+rows.py --text [CRATE [PAGE]]  prints the definitions of specs/, each with its comment and its text
 
-By hand a page says which rows it has, and in what order. The text of each comes from here:
+docs/claims.md says by hand which rows it has, and in what order. The section of a crate gets the bullets that stand under `# Proved`
+at the heads of its files in src/. A bullet `NAME`, `TYPE::NAME` or `laws::NAME` in it gets the first paragraph of that function's
+doc, of a law all of it, and the comment above each clause. Each public function with such comments has a bullet. A section with
+the line `<!-- by hand -->` stays as it is.
 
-- docs/definitions.md: a line [`CRATE` `PAGE`] gets the head of that page of specs/, and a bullet `NAME` below it gets the
-  comment above that definition. From a line `-- From: ..` on, a comment says which standard it follows.
-- docs/proved.md: the section of a crate gets the bullets that stand under `# Proved` at the heads of its files in src/. A bullet
-  `NAME`, `TYPE::NAME` or `laws::NAME` in it gets the first paragraph of that function's doc, of a law all of it, and the
-  comment above each clause. Each public function with such comments has a bullet. A section with the line `<!-- by hand -->`
-  stays as it is.
+A public definition of specs/ has a comment above it, and a page has one at its head. Those that have none yet are named in
+tests/pages/without-comments, which only gets shorter: a line `CRATE PAGE: NAME..`, where `(head)` stands for the head of the page.
 """
+
+from __future__ import annotations
 
 import pathlib
 import re
+import signal
 import sys
 import textwrap
+from typing import Iterator
+
+from specs import above, definitions, head, lines_of
 
 TOP = pathlib.Path(__file__).resolve().parents[2]
+CLAIMS, WITHOUT = TOP / "docs/claims.md", TOP / "tests/pages/without-comments"
 WIDTH = 126
-PLACE = re.compile(r"\[`(\w+)` `(\w+)`\]")
-DEFINED = re.compile(r"- `([^`]+)`")
-DEFINITION = re.compile(r" *(?:pub )?(?:abbrev|unfoldable|record|data) (?:pub )?([^\s:]+)")
 CLAIMED = re.compile(r"- `((?:\w+::)?\w+)`(?::|$)")
 FUNCTION = re.compile(r"( *)(pub )?(?:const )?fn (\w+)")
 OWNER = re.compile(r"(?:impl|pub trait)\b[^{]*?(\w+)(?:<[^{]*)? *(?:where[^{]*)?\{")
 CLAUSE = re.compile(r" *ensures (\w+ )?\{")
 # A link that only the docs of code have.
 LINK = re.compile(r"\[(`[^`\]]*`)\](?:\([^)\s]*\))?")
-LEAST = {"docs/definitions.md": 700, "docs/proved.md": 170}
+LEAST_ROWS, LEAST_DEFINITIONS = 170, 1700
 
 
-def wrapped(text, first="", rest=""):
+def wrapped(text: str, first: str = "", rest: str = "") -> list[str]:
     return textwrap.wrap(text, WIDTH, initial_indent=first, subsequent_indent=rest, break_long_words=False, break_on_hyphens=False)
 
 
-def above(lines, at, mark):
-    """The text of the comment lines right above a line."""
-    first = at
-    while first > 0 and lines[first - 1].strip().startswith(mark):
-        first -= 1
-    return [line.strip()[len(mark):].strip() for line in lines[first:at]]
-
-
-def head(lines, mark):
-    """The text of the comment lines that a file begins with."""
-    end = next((at for at, line in enumerate(lines) if not line.startswith(mark)), len(lines))
-    return above(lines, end, mark)
-
-
-class Specs:
-    """A page of specs/: its head, and the comment above each definition."""
-
-    def __init__(self, crate, page):
-        path = TOP / "crates" / crate / "specs" / f"{page}.antt"
-        if not path.is_file():
-            sys.exit(f"docs/definitions.md: {crate} has no page {page} in specs/")
-        lines = path.read_text(encoding="utf-8").splitlines()
-        self.head, self.definitions = " ".join(head(lines, "--")), {}
-        for at, line in enumerate(lines):
-            found = DEFINITION.match(line)
-            if found:
-                self.definitions.setdefault(found[1], " ".join(above(lines, at, "--")))
-
-
-def definitions(text):
-    """docs/definitions.md with each row made anew, how many rows that are, and what is missing."""
-    made, wrong, rows, page, place = [], [], 0, None, ""
-    for line in text.splitlines():
-        of, named = PLACE.match(line), DEFINED.match(line)
-        if of:
-            page, place = Specs(*of.groups()), "{} {}".format(*of.groups())
-            title = "[`{0}` `{1}`](../crates/{0}/specs/{1}.antt)".format(*of.groups())
-            made += ["", *wrapped(f"{title}: {page.head}" if page.head else title), ""]
-        elif page and named:
-            name, rows = named[1], rows + 1
-            if not page.definitions.get(name):
-                wrong.append(f"{place}: {'no comment above' if name in page.definitions else 'no definition'} {name}")
-            made += wrapped(f"- `{name}`: {page.definitions.get(name)}", "", "  ")
-        elif not page or line.startswith("#"):
-            page = None
-            made += ["", line, ""] if line.startswith("#") else [line]
-    return re.sub(r"\n{3,}", "\n\n", "\n".join(made).strip()) + "\n", rows, wrong
+def crates() -> list[str]:
+    """The crates, the lowest first."""
+    return re.findall(r"^(\w+):", (TOP / "crates.txt").read_text(encoding="utf-8"), re.MULTILINE)
 
 
 class Source:
     """What the files of a crate's src/ claim, and of each function what its doc and the comments above its clauses say."""
 
-    def __init__(self, crate):
-        self.claims, self.functions, self.commented = [], {}, set()
+    def __init__(self, crate: str) -> None:
+        self.claims: list[str] = []
+        self.functions: dict[str, tuple[str, list[tuple[str, str]]]] = {}
+        self.commented: set[str] = set()
         library = TOP / "crates" / crate / "src/lib.rt"
         exported = set(re.findall(r"\w+", library.read_text(encoding="utf-8"))) if library.is_file() else set()
         for path in sorted(library.parent.rglob("*.rt"), key=lambda path: (path != library, path)):
-            self.read(path.read_text(encoding="utf-8").splitlines(), path.name == "laws.rt", exported)
+            self.read(lines_of(path), path.name == "laws.rt", exported)
 
-    def read(self, lines, is_laws, exported):
+    def read(self, lines: list[str], is_laws: bool, exported: set[str]) -> None:
         self.claims += claims(lines)
         owner = ""
         for at, line in enumerate(lines):
@@ -110,13 +72,13 @@ class Source:
                     self.commented.add(title)
 
 
-def plain(text):
+def plain(text: str) -> str:
     return LINK.sub(r"\1", text).replace("`crate::", "`")
 
 
-def claims(lines):
+def claims(lines: list[str]) -> list[str]:
     """The bullets under `# Proved` at the head of a file."""
-    text, found = head(lines, "//!"), []
+    text, found = head(lines, "//!"), list[str]()
     for line in text[text.index("# Proved") + 1:] if "# Proved" in text else ():
         if line.startswith("- "):
             found.append(line[2:])
@@ -125,7 +87,7 @@ def claims(lines):
     return [plain(text) for text in found]
 
 
-def doc(lines, at, whole):
+def doc(lines: list[str], at: int, whole: bool) -> str:
     """The first paragraph of a function's doc, or all of it up to its first heading."""
     while lines[at - 1].endswith("]"):
         at = next(first for first in range(at - 1, -1, -1) if lines[first].strip().startswith("#["))
@@ -137,44 +99,43 @@ def doc(lines, at, whole):
     return plain(" ".join(filter(None, said)))
 
 
-def clauses(lines, at, indent):
+def clauses(lines: list[str], at: int, indent: str) -> Iterator[tuple[str, str]]:
     """The name of each clause of a function that has a comment above it, and that comment."""
     while at < len(lines) and not lines[at].startswith((f"{indent}{{", f"{indent}}}")):
         clause = CLAUSE.match(lines[at])
         text = " ".join(above(lines, at, "// ")) if clause else ""
-        if text:
+        if clause and text:
             yield (clause[1] or "").strip(), plain(text)
         if lines[at].endswith(";"):
             break
         at += 1
 
 
-def section(crate, names):
+def section(crate: str, names: list[str]) -> tuple[str, list[str]]:
     """The section of a crate with rows for these functions, and what is missing."""
-    source, made = Source(crate), [f"### {crate}", ""]
+    source, made = Source(crate), [f"## {crate}", ""]
     wrong = [f"{crate}: {name} has comments above its clauses and no row" for name in sorted(source.commented - set(names))]
     for claim in source.claims:
         made += wrapped(f"- {claim}", "", "  ")
     for name in names:
-        if not source.functions.get(name, [""])[0]:
+        says, of_clauses = source.functions.get(name, ("", []))
+        if not says:
             wrong.append(f"{crate}: no function {name} with a doc")
             continue
-        says, of_clauses = source.functions[name]
         made += wrapped(f"- `{name}`: {says}", "", "  ")
         for clause, claim in of_clauses:
             made += wrapped(f"- `{clause}`: {claim}" if clause else f"- {claim}", "  ", "    ")
     return "\n".join(made) + "\n", wrong
 
 
-def proved(text):
-    """docs/proved.md with the sections of crates made anew, how many rows that are, and what is missing."""
-    before, title, rest = text.partition("\n## By crate\n")
-    body, end, behind = rest.partition("\n## ")
-    crates = re.findall(r"^(\w+):", (TOP / "crates.txt").read_text(encoding="utf-8"), re.MULTILINE)
-    made, rows, wrong = [], 0, []
-    for part in re.split(r"\n(?=### )", body):
-        crate = part.partition("\n")[0].removeprefix("### ")
-        if crate not in crates or "<!-- by hand -->" in part:
+def claimed(text: str) -> tuple[str, int, list[str]]:
+    """docs/claims.md with the sections of crates made anew, how many rows that are, and what is missing."""
+    rows, wrong, known = 0, list[str](), crates()
+    first, *parts = re.split(r"\n(?=## )", text)
+    made = [first]
+    for part in parts:
+        crate = part.partition("\n")[0].removeprefix("## ")
+        if crate not in known or "<!-- by hand -->" in part:
             made.append(part.rstrip("\n") + "\n")
             continue
         names = [row[1] for row in map(CLAIMED.match, part.splitlines()) if row]
@@ -182,26 +143,85 @@ def proved(text):
         made.append(new)
         rows += len(names)
         wrong += missing
-    return before + title + "\n".join(made) + end + behind, rows, wrong
+    return "\n".join(made), rows, wrong
 
 
-def main():
-    wrong, counts = [], []
-    for name, remake in (("docs/definitions.md", definitions), ("docs/proved.md", proved)):
-        path = TOP / name
-        text = path.read_text(encoding="utf-8")
-        new, rows, missing = remake(text)
-        wrong += [f"{name}: {what}" for what in missing]
-        counts.append(f"{rows} rows of {name}")
-        if rows < LEAST[name]:
-            wrong.append(f"{name}: {rows} rows are few")
-        if "--write" in sys.argv:
-            path.write_text(new, encoding="utf-8")
-        elif new != text:
-            wrong.append(f"{name}: a row is not what its comment says; make the rows anew by: python3 -B tests/pages/rows.py --write")
+def pages(crate: str) -> Iterator[tuple[str, pathlib.Path]]:
+    """The pages of a crate's specs/, but for the one that only passes others on."""
+    folder = TOP / "crates" / crate / "specs"
+    for path in sorted(folder.rglob("*.antt")):
+        if path.name != "Lib.antt":
+            yield path.relative_to(folder).with_suffix("").as_posix(), path
+
+
+def uncommented() -> tuple[set[tuple[str, str, str]], int]:
+    """Public definitions and heads of pages that have no comment, and how many definitions have one."""
+    without, many = set(), 0
+    for crate in crates():
+        for page, path in pages(crate):
+            lines = lines_of(path)
+            if not any(head(lines, "--")):
+                without.add((crate, page, "(head)"))
+            for definition in definitions(lines):
+                if definition.public and any(definition.comment):
+                    many += 1
+                elif definition.public:
+                    without.add((crate, page, definition.name))
+    return without, many
+
+
+def known_without() -> set[tuple[str, str, str]]:
+    found = set()
+    for line in lines_of(WITHOUT):
+        place, _, names = line.partition(": ")
+        crate, page = place.split(" ")
+        found |= {(crate, page, name) for name in names.split()}
+    return found
+
+
+def listed(places: set[tuple[str, str, str]]) -> str:
+    """The lines that name these."""
+    order, by_page = crates(), dict[tuple[int, str], list[str]]()
+    for crate, page, name in sorted(places):
+        by_page.setdefault((order.index(crate), page), []).append(name)
+    return "".join(f"{order[at]} {page}: {' '.join(names)}\n" for (at, page), names in sorted(by_page.items()))
+
+
+def print_text(words: list[str]) -> None:
+    """The definitions of all crates, of one, or of one of its pages."""
+    for crate in words[:1] or crates():
+        for page, path in pages(crate):
+            lines = lines_of(path)
+            found = [definition for definition in definitions(lines) if definition.public]
+            if not found or words[1:] not in ([], [page]):
+                continue
+            print("\n".join([f"## {crate} {page}", "", *filter(None, head(lines, "--")), ""]))
+            for definition in found:
+                print("\n".join([*(f"-- {line}" for line in definition.comment), *definition.text, ""]))
+
+
+def main() -> None:
+    if sys.argv[1:2] == ["--text"]:
+        signal.signal(signal.SIGPIPE, signal.SIG_DFL)  # who reads it may have seen enough
+        print_text(sys.argv[2:])
+        return
+    text = CLAIMS.read_text(encoding="utf-8")
+    new, rows, wrong = claimed(text)
+    without, many = uncommented()
+    known = known_without()
+    wrong += [f"{crate} {page}: no comment above {name}" for crate, page, name in sorted(without - known)]
+    if "--write" in sys.argv:
+        CLAIMS.write_text(new, encoding="utf-8")
+        WITHOUT.write_text(listed(known & without), encoding="utf-8")
+    else:
+        if new != text:
+            wrong.append("docs/claims.md: a row is not what its comment says")
+        wrong += [f"{WITHOUT.relative_to(TOP)}: {' '.join(place)} has a comment by now, or is gone" for place in sorted(known - without)]
+    if rows < LEAST_ROWS or many < LEAST_DEFINITIONS:
+        wrong.append(f"{rows} rows, or {many} definitions with a comment, are few")
     if wrong:
-        sys.exit("\n".join(wrong))
-    print(", ".join(counts))
+        sys.exit("\n".join([*wrong, "rows and lists are made anew by: python3 -B tests/pages/rows.py --write"]))
+    print(f"{rows} rows of docs/claims.md, {many} definitions with a comment, {len(without)} without")
 
 
 main()

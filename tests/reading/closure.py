@@ -1,8 +1,9 @@
 """Which definitions a clause rests on: followed by name from the clause, through the imports of src/ and specs/.
 
-closure.py          fails where docs/reading.md or README.md differ from what it finds
-closure.py --write  writes the lists and figures into both, between their markers
-closure.py --list   prints each definition of each clause with its place
+closure.py                fails where docs/reading.md or README.md differ from what it finds
+closure.py --write        writes the lists and figures into both, between their markers
+closure.py --list         prints each definition of each clause with its place
+closure.py --text CLAUSE  prints the definitions of one, as check or rebalance, in an order to read them, with comments and texts
 
 What is followed: the words of the clause, by the `ghost use` lines of its file; of each definition the words of its text,
 by the `use` lines of its page. What a name in a type's declaration stands for (src/) is listed and not followed.
@@ -10,9 +11,12 @@ by the `use` lines of its page. What a name in a type's declaration stands for (
 
 import pathlib
 import re
+import signal
 import sys
 
 TOP = pathlib.Path(__file__).resolve().parents[2]
+sys.path[:0] = [str(TOP / "tests/pages")]
+import specs
 WORD = re.compile(r"[A-Za-z_][\w'-]*")
 HEAD = re.compile(r"^(?:(?:abbrev|unfoldable|record|data|pub) )*([A-Za-z_][\w'-]*)")
 INNER = re.compile(r"^ +(?:pub )?(?:abbrev|unfoldable|record|data) ")
@@ -257,15 +261,24 @@ def figures(found):
         yield f"| {says} | {name} of `{crate}` | {len(definitions)} | {sources.size(definitions):,} | {pages} | {views} |"
 
 
-def sentence(found):
+def believed(found):
     """How little that is, as README.md says it."""
     def lines(title, key="definitions", without=frozenset()):
         return f"{found[title]['sources'].size(found[title][key] - without):,}"
 
+    yield "| To believe | one reads so many lines of definitions | and so many on its types |"
+    yield "|---|---|---|"
+    for title, says in BELIEVED.items():
+        yield f"| {says} | {lines(title)} | {lines(title, 'views')} |"
     added = lines("rebalance_told", without=found["rebalance"]["definitions"])
-    yield f"To trust a yes to a certificate in memory, read {lines('check')} lines of definitions, and {lines('check', 'views')} on its types; to a text"
-    yield f"{lines('check_text')} and {lines('check_text', 'views')}. The headline of a rebalance takes {lines('rebalance')} and {lines('rebalance', 'views')}; `told`, by which a shortage names"
-    yield f"containers, adds {added}. They have no precondition, so they always hold. [docs/reading.md](docs/reading.md) lists them."
+    yield f"| besides, whom a shortage names (its clause `told`) | {added} more | |"
+
+
+BELIEVED = {
+    "check": "a yes of the check, to a certificate in memory",
+    "check_text": "a yes of `numarun check`, to a text",
+    "rebalance": "the headline, of one `rebalance`",
+}
 
 
 SAYS = {
@@ -280,7 +293,7 @@ SAYS = {
     "scripts_serve_configs": "the same, from a script's text and the configs' bytes",
     "run_mirrored": "`run --cgroup`: what the tree's files are asked for, and what they then have",
     "boot_mirrored": "that it begins so, at this root and on this machine",
-    "do_run_mirrored": "all that `run --cgroup` does, by its arguments, files and streams",
+    "do_run_mirrored": "what `run --cgroup` does up to the end of its script, by its arguments, files and streams",
 }
 
 
@@ -328,6 +341,18 @@ def by_crate(places):
     return "; ".join(f"{', '.join(n)} of `{c}`" for c, n in kept) or "none"
 
 
+def print_text(found):
+    """The definitions of a clause, page by page, each behind all that it names."""
+    signal.signal(signal.SIGPIPE, signal.SIG_DFL)  # who reads it may have seen enough
+    sources = found["sources"]
+    for (crate, page), names in in_order(sources, found["definitions"]):
+        path = TOP / "crates" / crate / "specs" / f"{page.replace('.', '/')}.antt"
+        print(f"## {path.relative_to(TOP)}\n")
+        for definition in specs.definitions(specs.lines_of(path)):
+            if definition.name in names:
+                print("\n".join([*(f"-- {line}" for line in definition.comment), *definition.text, ""]))
+
+
 def marked(name):
     return f"<!-- {name}: by tests/reading/closure.py -->", f"<!-- end of {name} -->"
 
@@ -365,7 +390,11 @@ def main():
         if "--list" in sys.argv:
             for place in sorted(definitions):
                 print(title, *place)
-    sections["figures"], sections["believe"] = "\n".join(figures(found)), "\n".join(sentence(found))
+    if "--text" in sys.argv:
+        title = sys.argv[-1]
+        print_text(found[title]) if title in found else sys.exit(f"no such clause; there are {', '.join(found)}")
+        return
+    sections["figures"], sections["believe"] = "\n".join(figures(found)), "\n".join(believed(found))
     wrong = []
     for file, names in (("docs/reading.md", [name for name in sections if name != "believe"]), ("README.md", ["believe"])):
         path = TOP / file

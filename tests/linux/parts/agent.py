@@ -18,7 +18,8 @@ import tree
 from tree import CPU, RESERVED, ROOT, TOP, read, say, write
 
 FOLDER, WORK, OUT = "/tmp/g", "/run/numarun", "/tmp/agent-out"
-MOMENTS = 8
+MOMENTS = range(8, 41)  # how often it is killed: at least, and at most where less was seen than is wanted
+WANTED = {"adopt": 3, "plan": 5}
 PATIENCE = 30  # seconds that a container stays at least, unless it has had its CPUs before
 NEAR = 3      # seconds in which a line of the agent is of the same matter as a look
 PINNED, SHARED = ["p0", "p1", "p2"], ["s0", "s1"]
@@ -140,11 +141,24 @@ def flap(world):
     write(f"{CPU}/cpu{cpu}/online", "1")
 
 
+def counts():
+    """How many lines of these kinds the agent has written."""
+    return {kind: sum(line.split(" ")[0] == kind for line in lines()) for kind in ("adopt", "create", "ended", "plan", "offline")}
+
+
+def is_enough(world):
+    said = counts()
+    return all(said[kind] >= least for kind, least in WANTED.items()) and 4 * len(world.had) > world.count and world.changed > 0
+
+
 def killed_by_chance(world):
+    """How often it was killed. A slow machine sees less between two kills, so it is killed more often there."""
     threads = [threading.Thread(target=way) for way in (world.change, world.watch)]
     for thread in threads:
         thread.start()
-    for _ in range(MOMENTS):
+    killed = 0
+    while killed < MOMENTS.start or killed < MOMENTS.stop and not is_enough(world):
+        killed += 1
         before, run, end = os.path.getsize(OUT), agent(), time.monotonic() + 30
         while os.path.getsize(OUT) == before and time.monotonic() < end:
             time.sleep(0.01)
@@ -160,6 +174,7 @@ def killed_by_chance(world):
     world.ended = True
     for thread in threads:
         thread.join()
+    return killed
 
 
 def agrees(world, where):
@@ -174,7 +189,7 @@ def agrees(world, where):
 tree.clear()
 open(OUT, "w").close()
 world = World(tree.chance("agent"))
-killed_by_chance(world)
+killed = killed_by_chance(world)
 for name in PINNED + SHARED:
     if name not in world.all.there:
         world.come(name)
@@ -195,9 +210,8 @@ agrees(world, "they are back")
 squeezed = causes(world)
 assert not world.shared and not squeezed["no cause"], (world.shared, squeezed)
 assert "Traceback" not in read(OUT), read(OUT)[-2000:]
-told = {kind: sum(line.split(" ")[0] == kind for line in lines()) for kind in ("adopt", "create", "ended", "plan", "offline")}
-assert told["adopt"] >= 3 and told["plan"] >= 5 and world.looks > 50, (told, world.looks)
-assert 4 * len(world.had) > world.count and world.changed, (len(world.had), world.count, world.changed)
-say(f"agent: killed {MOMENTS} times and started again: {world.looks} looks, {len(world.had)} of {world.count} containers had CPUs of their own, "
+told = counts()
+assert is_enough(world) and world.looks > 50, (told, world.looks, len(world.had), world.count, world.changed)
+say(f"agent: killed {killed} times and started again: {world.looks} looks, {len(world.had)} of {world.count} containers had CPUs of their own, "
     f"{world.changed} limits changed, squeezed by {squeezed}, {told}")
 tree.clear()

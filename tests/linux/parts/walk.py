@@ -20,7 +20,7 @@ TOP, OUT, OUT_OF_AGENT = tree.REPOSITORY, "/tmp/typed", "/tmp/agent"
 PAGES = {name: read(f"{TOP}/{name}") for name in ("README.md", "operators/README.md")}
 HERE = {"PATH": "/usr/local/bin:/usr/bin:/bin:/app", "HOME": "/root", "TERM": "dumb"}
 # What is not typed: it wants the toolchain, or a service manager.
-ELSEWHERE = ("bash examples/quick-look.sh", "bash tests/all.sh", "systemctl enable")
+ELSEWHERE = ("bash examples/quick-look.sh", "bash tests/all.sh", "bash build.sh", "systemctl enable")
 done = set()
 
 
@@ -82,7 +82,7 @@ def program():
 
 
 def on_a_real_kernel():
-    """The machine file of this machine, and a run over its tree, with a process in one of its containers."""
+    """The machine file of this machine, and a run over its tree, with a process in one of its containers; it is undone by hand."""
     typed(command("operators/numarun-describe host"))
     machine = json.load(open(f"{TOP}/host.json"))
     assert machine["nodes"] == ["0-1", "2-3", "4-5", "6-7"] and machine["distances"][1] == [20, 10, 30, 20] and machine["cores"], machine
@@ -102,12 +102,21 @@ def on_a_real_kernel():
 
     ask(f"create packets {containers.bundle('packets', allowed='4-5')}", "pid")
     pid = tree.spawn(ROOT)
-    typed(f"echo {pid} > /sys/fs/cgroup/numarun/packets/cgroup.procs")
-    assert typed(f"grep Cpus_allowed_list /proc/{pid}/status").split() == ["Cpus_allowed_list:", "0"]
-    assert "hold packets 4-5" in ask("rebalance", "end")
-    assert typed(f"grep Cpus_allowed_list /proc/{pid}/status").split() == ["Cpus_allowed_list:", "4-5"]
+    assert tree.allowed(pid) == tree.CPUS
+    session = re.search(r"^```console\n(.*?)^```", PAGES["README.md"], re.M | re.S)[1].replace("421", str(pid)).splitlines()
+    found, places = [], []
+    for line in session:
+        if line.startswith(("$ ", "> ")):
+            found.append(typed(line[2:]) if line.startswith("$ ") else ask(line[2:], "end"))
+            places.append(tree.allowed(pid))
+    assert places == [{0}, {4, 5}, {4, 5}], places
+    assert "hold packets 4-5" in found[1] and found[2].split() == ["Cpus_allowed_list:", "4-5"], found
+    assert ask("kill packets KILL", "ok") + ask("delete packets", "ok") == ["ok", "ok"]
     run.stdin.close()
     assert run.wait() == 0, read("/tmp/notes")
+    undone = "rmdir /sys/fs/cgroup/numarun"
+    assert f"`{undone}`" in PAGES["README.md"]
+    typed(undone)
     tree.clear()
 
 
@@ -149,7 +158,7 @@ def has_own(pid, many):
 
 
 def by_readme():
-    """README's three lines, with a container of crun's."""
+    """README's lines for an agent, with a container of crun's, and what undoes them."""
     pid, _ = process_of_crun("first", {"quota": 200000, "period": 100000, "mems": "1"})
     line = command("operators/numarun-agent host.json")
     done.add(line)
@@ -158,6 +167,8 @@ def by_readme():
     assert tree.allowed(pid) == {2, 3}
     assert typed(command("operators/numarun-dry-run host.json")).startswith("new would have 4"), read(OUT)
     ended(agent)
+    typed(command("operators/numarun-agent --release"))
+    assert tree.allowed(pid) == tree.CPUS, read(OUT)
     crun("delete", "--force", "first")
 
 
