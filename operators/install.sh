@@ -5,8 +5,8 @@
 #
 # PREFIX/bin has numarun and the scripts: numarun-agent, numarun-draw-plan, numarun-dry-run, numarun-explain,
 # numarun-hook, numarun-describe. PREFIX/lib/systemd/system has a unit for the agent, which is not
-# enabled. PREFIX/share/man has the man pages; PREFIX/share/doc/numarun has docs/formats.md and, in examples/, the bundles, machine
-# files, scripts, certificates and problems, below the names that they have here. The program is the one that PROGRAM in the
+# enabled. PREFIX/share/man has the man pages; PREFIX/share/doc/numarun has the pages of operators/, docs/formats.md and, in examples/,
+# the bundles, machine files, scripts, certificates and problems, below the names that they have here. The program is the one that PROGRAM in the
 # environment names, or the proved one of this checkout, from bash build.sh.
 # Nothing but the unit names PREFIX, so that the rest may be moved. To install again is to bring it up to date: what the last
 # time installed, and this time does not, is taken away. PREFIX/lib/numarun/installed is the list of all that was installed,
@@ -89,7 +89,12 @@ put_all() {
     for name in numarun-agent.8 numarun-hook.8; do
         put 644 "$top/operators/$name" "share/man/man8/$name"
     done
-    put 644 "$top/docs/formats.md" share/doc/numarun/docs/formats.md
+    for name in "$top"/operators/*.md; do
+        put 644 "$name" "share/doc/numarun/operators/$(basename "$name")"
+    done
+    for name in formats.md two-socket.svg; do
+        put 644 "$top/docs/$name" "share/doc/numarun/docs/$name"
+    done
     while read -r name; do
         put 644 "$top/$name" "share/doc/numarun/$name"
     done < <(cd "$top" && find examples/bundles examples/machines examples/scripts examples/*.certificate examples/*.problem -type f | sort)

@@ -6,7 +6,7 @@ import re
 import shutil
 import subprocess
 
-from trial import TOP, check, end, refuses, told
+from trial import OPERATORS, TOP, check, end, refuses, told
 
 PROGRAM = os.path.abspath(os.environ["PROGRAM"])
 PREFIX = os.path.join(os.environ["SCRATCH"], "installed here")
@@ -53,7 +53,8 @@ first = standing()
 check("the commands", sorted(name for name in os.listdir(os.path.join(PREFIX, "bin"))), ["numarun"] + [f"numarun-{name}" for name in NAMES] + ["other"])
 pages = [name for name in first if name.startswith("share/") and not name.endswith("/")]
 kept = [os.path.relpath(os.path.join(folder, name), TOP) for of in ("bundles", "machines", "scripts") for folder, _, names in os.walk(os.path.join(TOP, "examples", of)) for name in names]
-kept += ["docs/formats.md", "examples/caches.certificate", "examples/caches.problem", "examples/two-containers.certificate"]
+kept += ["operators/" + name for name in os.listdir(OPERATORS) if name.endswith(".md")]
+kept += ["docs/formats.md", "docs/two-socket.svg", "examples/caches.certificate", "examples/caches.problem", "examples/two-containers.certificate"]
 check("the pages", sorted(pages), sorted([f"share/doc/numarun/{name}" for name in kept] +
       ["share/man/man1/numarun.1", "share/man/man8/numarun-agent.8", "share/man/man8/numarun-hook.8"]))
 listed = open(os.path.join(PREFIX, "lib", "numarun", "installed")).read().splitlines()

@@ -66,11 +66,17 @@ def goes_on():
     check("and given back", (status, site.file("system.slice"), site.has("a")), (0, "", [""]))
 
 
+def unit_block(page):
+    """What a page says to type until the unit is enabled, without its comments."""
+    blocks = re.findall(r"```sh\n(.*?)```", open(os.path.join(OPERATORS, page)).read(), re.S)
+    return re.sub(r"\s+#.*", "", next(block for block in blocks if "systemctl enable" in block))
+
+
 def by_the_page():
-    """What the page says to type makes a machine file with cores, and an agent that starts by it before any container ran."""
+    """What the pages say to type makes a machine file with cores, and an agent that starts by it before any container ran."""
     prefix, etc, bin = installed("prefix"), os.path.join(SCRATCH, "etc"), os.path.join(SCRATCH, "bin")
-    page = open(os.path.join(OPERATORS, "README.md")).read()
-    block = next(block for block in re.findall(r"```sh\n(.*?)```", page, re.S) if "systemctl enable" in block)
+    block = unit_block("README.md")
+    check("the first page and install.md say the same", unit_block("install.md"), block)
     os.makedirs(bin)
     with open(os.path.join(bin, "systemctl"), "w") as file:
         file.write(f'#!/bin/sh\necho "$@" > {shlex.quote(os.path.join(etc, "systemctl"))}\n')
