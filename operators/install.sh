@@ -4,9 +4,9 @@
 #        operators/install.sh --deb FOLDER
 #
 # PREFIX/bin has numarun and the scripts: numarun-agent, numarun-draw-plan, numarun-dry-run, numarun-explain,
-# numarun-hook, numarun-describe-host, numarun-describe-hwloc. PREFIX/lib/systemd/system has a unit for the agent, which is not
-# enabled. PREFIX/share/man has the man page; PREFIX/share/doc/numarun has docs/formats.md and, in examples/, the bundles, machine
-# files, scripts, certificates and problems, below the names that they have here. The program is the one that PROGRAM in the
+# numarun-hook, numarun-describe. PREFIX/lib/systemd/system has a unit for the agent, which is not
+# enabled. PREFIX/share/man has the man pages; PREFIX/share/doc/numarun has the pages of operators/, docs/formats.md and, in examples/,
+# the bundles, machine files, scripts, certificates and problems, below the names that they have here. The program is the one that PROGRAM in the
 # environment names, or the proved one of this checkout, from bash build.sh.
 # Nothing but the unit names PREFIX, so that the rest may be moved. To install again is to bring it up to date: what the last
 # time installed, and this time does not, is taken away. PREFIX/lib/numarun/installed is the list of all that was installed,
@@ -20,9 +20,7 @@
 set -euo pipefail
 export LC_ALL=C
 top=$(cd "$(dirname "$(realpath "$0")")/.." && pwd)
-modules=(common answers demands events groups homes mending newcomers pauses plans records release room sight slices taken waiters)
-modules=("${modules[@]/%/.py}")
-scripts=(agent.py draw-plan.py dry-run.py explain.py hook.py describe-host.sh describe-hwloc.py)
+scripts=(agent draw-plan dry-run explain hook describe)
 
 say() { echo "install.sh: $1" >&2; }
 fail() { say "$1"; exit 1; }
@@ -48,7 +46,7 @@ take_away() {
                 [ ! -d "$prefix/${name}__pycache__" ] || rmdir --ignore-fail-on-non-empty "$prefix/${name}__pycache__"
                 [ ! -d "$prefix/$name" ] || rmdir --ignore-fail-on-non-empty "$prefix/$name"
                 ;;
-            *.py) rm -f "$prefix/$name" "$prefix/lib/numarun/__pycache__/$(basename "$name" .py)".*.pyc ;;
+            *.py) rm -f "$prefix/$name" "$prefix/$(dirname "$name")/__pycache__/$(basename "$name" .py)".*.pyc ;;
             *) rm -f "$prefix/$name" ;;
         esac
     done
@@ -78,17 +76,25 @@ put() {
 put_all() {
     local name script
     put 755 "$program" bin/numarun
-    for name in "${modules[@]}"; do
-        put 644 "$top/operators/$name" "lib/numarun/$name"
+    for name in "$top"/operators/numarun_host/*.py; do
+        put 644 "$name" "lib/numarun/numarun_host/$(basename "$name")"
     done
     for script in "${scripts[@]}"; do
-        put 755 "$top/operators/$script" "lib/numarun/$script"
-        ln -sfn "../lib/numarun/$script" "$prefix/bin/numarun-${script%.*}"
-        made+="bin/numarun-${script%.*}"$'\n'
+        put 755 "$top/operators/numarun-$script" "lib/numarun/numarun-$script"
+        ln -sfn "../lib/numarun/numarun-$script" "$prefix/bin/numarun-$script"
+        made+="bin/numarun-$script"$'\n'
     done
     put 644 "$top/operators/numarun-agent.service" "$unit"
     put 644 "$top/docs/numarun.1" share/man/man1/numarun.1
-    put 644 "$top/docs/formats.md" share/doc/numarun/docs/formats.md
+    for name in numarun-agent.8 numarun-hook.8; do
+        put 644 "$top/operators/$name" "share/man/man8/$name"
+    done
+    for name in "$top"/operators/*.md; do
+        put 644 "$name" "share/doc/numarun/operators/$(basename "$name")"
+    done
+    for name in formats.md two-socket.svg; do
+        put 644 "$top/docs/$name" "share/doc/numarun/docs/$name"
+    done
     while read -r name; do
         put 644 "$top/$name" "share/doc/numarun/$name"
     done < <(cd "$top" && find examples/bundles examples/machines examples/scripts examples/*.certificate examples/*.problem -type f | sort)
@@ -110,7 +116,7 @@ pack() {
     [[ $version =~ ^[0-9][0-9a-z.+~]*$ ]] || fail "$program --version: no version of a package"
     architecture=$(dpkg --print-architecture)
     mkdir -p "$stage/DEBIAN" "$stage/etc/numarun"
-    gzip -9n "$stage/usr/share/man/man1/numarun.1"
+    gzip -9n "$stage"/usr/share/man/man?/numarun*
     printf 'numarun (%s) unstable; urgency=low\n\n  * The program, its scripts and its pages.\n\n -- %s  %s\n' "$version" "$maintainer" \
         "$(date -u -R -d "@${SOURCE_DATE_EPOCH:-$(stat -c %Y "$program")}")" | gzip -9n > "$document/changelog.gz"
     printf 'Format: https://www.debian.org/doc/packaging-manuals/copyright-format/1.0/\n\nFiles: *\nCopyright: %s\nLicense: see the sources\n' \
@@ -141,7 +147,7 @@ if [ -n "$uninstall" ]; then
     [ -f "$list" ] || fail "$list: no such file: nothing is installed there"
     named=$(cat "$list")
     take_away <<< "$named"
-    [ ! -e /run/numarun/taken.json ] || say "the groups have what the agent gave them; operators/agent.py --release --cgroup /sys/fs/cgroup gives it back"
+    [ ! -e /run/numarun/taken.json ] || say "the groups have what the agent gave them; operators/numarun-agent --release --cgroup /sys/fs/cgroup gives it back"
     exit 0
 fi
 

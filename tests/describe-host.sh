@@ -1,5 +1,5 @@
 #!/usr/bin/env bash
-# Compares what operators/describe-host.sh writes of trees of files, as Linux has them under /sys/devices/system, with the
+# Compares what operators/numarun-describe host writes of trees of files, as Linux has them under /sys/devices/system, with the
 # machine file that stands beside each; and of two recorded machines with those in examples/machines, which were read off the
 # same records by hand. What it writes of these is run, too. PROGRAM in the environment is run in place of the one that this
 # builds.
@@ -32,9 +32,9 @@ says() {
     if [ "${1:-}" = refused ]; then stream=2 wanted=1; shift; fi
     if [ "${1:-}" = notes ]; then stream=2; shift; fi
     if [ "$stream" = 1 ]; then
-        answer=$(timeout 60 bash "$top/operators/describe-host.sh" --sys "$scratch/$name" "$@" 2>/dev/null) || status=$?
+        answer=$(timeout 60 "$top/operators/numarun-describe" host --sys "$scratch/$name" "$@" 2>/dev/null) || status=$?
     else
-        answer=$(timeout 60 bash "$top/operators/describe-host.sh" --sys "$scratch/$name" "$@" 2>&1 >/dev/null) || status=$?
+        answer=$(timeout 60 "$top/operators/numarun-describe" host --sys "$scratch/$name" "$@" 2>&1 >/dev/null) || status=$?
     fi
     if [ "$answer" != "$expected" ] || [ "$status" != "$wanted" ]; then
         printf '%s %s: status %s\n%s\nexpected:\n%s\n' "$name" "$*" "$status" "$answer" "$expected"
@@ -53,7 +53,7 @@ says '{
   "reserved": "0,4",
   "offline": "7"
 }' --reserved 4,0
-says 'describe-host.sh: reserved CPUs that are not online: 7-8' refused --reserved 6-8
+says 'numarun-describe: reserved CPUs that are not online: 7-8' refused --reserved 6-8
 
 # Cores: siblings CPU LIST.. says which CPUs have this list of siblings.
 siblings() {
@@ -67,10 +67,10 @@ siblings 0,4 0 4
 siblings 1,5 1 5
 siblings 2,6 2 6
 siblings 3 3
-says 'describe-host.sh: --cores: of CPU 7 no siblings are told, as of one that is offline; without --cores each CPU is a core' refused --cores
+says 'numarun-describe: --cores: of CPU 7 no siblings are told, as of one that is offline; without --cores each CPU is a core' refused --cores
 echo 0-7 > "$scratch/$name/cpu/online"
 siblings 7 7
-says 'describe-host.sh: --cores: cores have different numbers of CPUs: 0,4 and 3' refused --cores
+says 'numarun-describe: --cores: cores have different numbers of CPUs: 0,4 and 3' refused --cores
 siblings 3,7 3 7
 with_cores='{
   "nodes": ["0-1,4-5", "2-3,6-7"],
@@ -81,20 +81,20 @@ with_cores='{
 }'
 says "$with_cores" --cores
 says "$with_cores" --cores --reserved 0,4
-says 'describe-host.sh: --cores: the core 1,5 is reserved in part' refused --reserved 0,4,1 --cores
+says 'numarun-describe: --cores: the core 1,5 is reserved in part' refused --reserved 0,4,1 --cores
 echo '{"ociVersion": "1.0.2", "root": {"path": "r"}, "linux": {"resources": {"cpu": {"quota": 100000}}}}' > "$scratch/config.json"
 echo "$with_cores" > "$scratch/cores.json"
 answers=$(printf 'create a %s\nrebalance\n' "$scratch" | timeout 60 "$program" run "$scratch/cores.json" | paste -s -d ,)
 [ "$answers" = "pid 2,plan total 20,hold a 1,5,pool 0,2-4,6-7,end" ] || { echo "cores: the written machine file is not run: $answers"; failed=1; }
 siblings 2-3 2 3
 siblings 3,6 6
-says 'describe-host.sh: --cores: CPU 3 is in two cores' refused --cores
+says 'numarun-describe: --cores: CPU 3 is in two cores' refused --cores
 siblings 1,6 1
-says 'describe-host.sh: --cores: the core 1,6 is in two nodes' refused --cores
+says 'numarun-describe: --cores: the core 1,6 is in two nodes' refused --cores
 siblings 1,9 1
-says 'describe-host.sh: --cores: CPU 9 of the core 1,9 is in no node' refused --cores
+says 'numarun-describe: --cores: CPU 9 of the core 1,9 is in no node' refused --cores
 siblings x 1
-says "describe-host.sh: $scratch/$name/cpu/cpu1/topology/thread_siblings_list: x is no list" refused --cores
+says "numarun-describe: $scratch/$name/cpu/cpu1/topology/thread_siblings_list: x is no list" refused --cores
 
 # The nodes 0 and 2, and memory alone at 3.
 tree gap 0-3,10 0-3,10
@@ -120,7 +120,7 @@ tree high 0-1 0-1
 node 0 "10 80" 0 1
 node 255 "80 10"
 nodes 0,255
-says 'describe-host.sh: node 255: a machine file has nodes 0 to 127 (see --renumber)' refused
+says 'numarun-describe: node 255: a machine file has nodes 0 to 127 (see --renumber)' refused
 says '{
   "nodes": ["0-1", ""],
   "distances": [[10, 80], [80, 10]],
@@ -138,17 +138,17 @@ says '{
 }'
 
 # What the words may not be.
-says 'describe-host.sh: --reserved: x is no list of CPUs' refused --reserved x
-says 'describe-host.sh: --reserved: no CPU is named' refused --reserved 3-2
-says 'describe-host.sh: /no-such-folder/cpu/online: no such file, or it can'"'"'t be read' refused --sys /no-such-folder
-if ! bash "$top/operators/describe-host.sh" --help | grep -q '^Example: operators/describe-host.sh '; then
-    echo 'describe-host.sh --help: no example'
+says 'numarun-describe: --reserved: x is no list of CPUs' refused --reserved x
+says 'numarun-describe: --reserved: no CPU is named' refused --reserved 3-2
+says 'numarun-describe: /no-such-folder/cpu/online: no such file, or it can'"'"'t be read' refused --sys /no-such-folder
+if ! "$top/operators/numarun-describe" host --help | grep -q '^  operators/numarun-describe host '; then
+    echo 'numarun-describe host --help: no example'
     failed=1
 fi
 
 # More CPUs than a machine file may have.
 tree large 0-4096 0-4096
-says 'describe-host.sh: CPU 4096: a machine file has CPUs 0 to 4095' refused
+says 'numarun-describe: CPU 4096: a machine file has CPUs 0 to 4095' refused
 
 # Nodes that are not at 10 from themselves, as some firmware has it; and CPU 0 is in no node.
 tree odd 0-4 0-4
@@ -161,20 +161,20 @@ says '{
   "reserved": "1",
   "offline": ""
 }'
-says 'describe-host.sh: node 0 is at 21 from itself; written is 10, as a machine file has to have it
-describe-host.sh: node 1 is at 0 from itself; written is 10, as a machine file has to have it
-describe-host.sh: left out, as no node has them: CPUs 0' notes
-says 'describe-host.sh: node 0 is at 21 from itself; written is 10, as a machine file has to have it
-describe-host.sh: node 1 is at 0 from itself; written is 10, as a machine file has to have it
-describe-host.sh: left out, as no node has them: CPUs 0
-describe-host.sh: reserved CPUs that are not online: 0' refused --reserved 0-1
+says 'numarun-describe: node 0 is at 21 from itself; written is 10, as a machine file has to have it
+numarun-describe: node 1 is at 0 from itself; written is 10, as a machine file has to have it
+numarun-describe: left out, as no node has them: CPUs 0' notes
+says 'numarun-describe: node 0 is at 21 from itself; written is 10, as a machine file has to have it
+numarun-describe: node 1 is at 0 from itself; written is 10, as a machine file has to have it
+numarun-describe: left out, as no node has them: CPUs 0
+numarun-describe: reserved CPUs that are not online: 0' refused --reserved 0-1
 
 # What is no machine file is not written: the first refusal is the last line.
 bad() {
     local line=$1
     shift
-    if answer=$(timeout 60 bash "$top/operators/describe-host.sh" --sys "$scratch/$name" "$@" 2> "$scratch/err") || [ -n "$answer" ] ||
-        [ "$(tail -n 1 "$scratch/err")" != "describe-host.sh: $scratch/$name/$line" ]; then
+    if answer=$(timeout 60 "$top/operators/numarun-describe" host --sys "$scratch/$name" "$@" 2> "$scratch/err") || [ -n "$answer" ] ||
+        [ "$(tail -n 1 "$scratch/err")" != "numarun-describe: $scratch/$name/$line" ]; then
         printf '%s: found\n%s%s\nexpected\n%s\n' "$name" "$answer" "$(cat "$scratch/err")" "$line"
         failed=1
     fi
@@ -197,17 +197,17 @@ nodes 0-1
 echo > "$scratch/bad/cpu/online"
 bad 'cpu/online:  is no list'
 echo 4-5 > "$scratch/bad/cpu/online"
-says 'describe-host.sh: left out, as no node has them: CPUs 4-5
-describe-host.sh: no CPU of a node is online' refused
+says 'numarun-describe: left out, as no node has them: CPUs 4-5
+numarun-describe: no CPU of a node is online' refused
 echo 0-3 > "$scratch/bad/cpu/online"
 node 1 "20 10" 1
-says 'describe-host.sh: CPU 1 is in two nodes' refused
+says 'numarun-describe: CPU 1 is in two nodes' refused
 
 # Nodes without CPUs alone.
 tree empty 0 0
 node 0 "10"
 nodes 0
-says 'describe-host.sh: no node has CPUs' refused
+says 'numarun-describe: no node has CPUs' refused
 
 # recorded NAME RESERVED lays out a recorded machine: a line has a file and what stands in it, or a folder alone.
 recorded() {
@@ -217,7 +217,7 @@ recorded() {
         mkdir -p "$scratch/$name/$(dirname "$path")"
         if [ -n "$text" ]; then echo "$text" > "$scratch/$name/$path"; else mkdir "$scratch/$name/$path"; fi
     done
-    bash "$top/operators/describe-host.sh" --sys "$scratch/$name" --reserved "$2" "${@:3}" > "$scratch/$name.json"
+    "$top/operators/numarun-describe" host --sys "$scratch/$name" --reserved "$2" "${@:3}" > "$scratch/$name.json"
     if ! python3 -B "$top/tests/describe-host/same.py" "$top/examples/machines/$name.json" "$scratch/$name.json"; then
         failed=1
     elif [ "$(echo list | timeout 60 "$program" run "$scratch/$name.json")" != end ]; then
@@ -249,19 +249,19 @@ for k in {0..4095}; do
     echo "$((k & ~1))-$((k | 1))" > "$scratch/most/cpu/cpu$k/topology/thread_siblings_list"
 done
 echo 0-4095 > "$scratch/most/cpu/online"
-bash "$top/operators/describe-host.sh" --sys "$scratch/most" --cores > "$scratch/most.json"
+"$top/operators/numarun-describe" host --sys "$scratch/most" --cores > "$scratch/most.json"
 answers=$(echo list | timeout 60 "$program" run "$scratch/most.json")
 [ "$answers $(grep -o '"[0-9]*-[0-9]*[13579]"' "$scratch/most.json" | wc -l)" = "end 2177" ] || { echo "most: cores: $answers"; failed=1; }
 echo 0-4094 > "$scratch/most/cpu/online"
-bash "$top/operators/describe-host.sh" --sys "$scratch/most" > "$scratch/most.json"
+"$top/operators/numarun-describe" host --sys "$scratch/most" > "$scratch/most.json"
 answers=$(printf 'online 4095\nonline 4096\nlist\n' | timeout 60 "$program" run "$scratch/most.json" | paste -s -d ,)
 [ "$answers" = "ok,refused E52 NoCpu,end" ] || { echo "most: the written machine file is not run: $answers"; failed=1; }
 nodes 0-128
 node 128 "20"
-says 'describe-host.sh: node 128: a machine file has nodes 0 to 127 (see --renumber)' refused
+says 'numarun-describe: node 128: a machine file has nodes 0 to 127 (see --renumber)' refused
 
 recorded two-socket 0,16 --cores
 recorded two-nodes-a-socket 0-1,64-65
 
-[ "$failed" = 0 ] && echo "describe-host.sh: all machine files as expected"
+[ "$failed" = 0 ] && echo "numarun-describe: all machine files as expected"
 exit "$failed"

@@ -1,8 +1,8 @@
 #!/usr/bin/env bash
-# Tries the scripts of operators/ and benches/, and a quick look: a quick look, machine files of what hwloc tells, pictures of
+# Tries the scripts of operators/ and benches/, and a quick look: types, a quick look, machine files of what hwloc tells, pictures of
 # plans and shortages, what is explained of them, where a container would go, the agent over the program in plain folders, beside
-# the system's own groups, where something changes, and killed again and again, homes, hooks, the installation and the package,
-# the comparison with other ways to place, the count of moves, and the man page. What a machine lacks for it is passed over, and
+# the system's own groups, where something changes, at its edges, and killed again and again, what it decides over a plain model, homes, hooks, the installation and the package,
+# the pages and what they say to type, the comparison with other ways to place, the count of moves, and the man page. What a machine lacks for it is passed over, and
 # named. They run in lanes side by side. PROGRAM in the environment is run in place of the one that this builds; TESTS are the files
 # of operators/ that are run, in place of all.
 set -euo pipefail
@@ -11,8 +11,12 @@ top=$(cd "$(dirname "$0")/.." && pwd)
 scratch=$(mktemp -d) work=$scratch
 . "$top/tests/build-preloads.sh"
 export PROGRAM=$program GROUPS_LIBRARY=$scratch/groups.so
-lanes=("looks hwloc pictures explains dry-runs rests hooks installs packages peers moves manual lacking" "agents" "changes homes" "troubles restarts" "kills")
+lanes=("looks hwloc pictures explains dry-runs rests hooks installs packages pages peers moves manual lacking" "agents edges" "changes homes" "troubles restarts"
+    "kills decisions")
 [ -z "${TESTS:-}" ] || lanes=("$TESTS")
+
+# Types and names: what Debian's mypy and pyflakes say of the package, and of the programs over it.
+[ -n "${TESTS:-}" ] || bash "$top/tests/operators/types.sh"
 
 # lane N TEST..: these, one after another, in a scratch folder of their own, up to the first that fails.
 lane() {

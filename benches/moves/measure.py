@@ -18,7 +18,9 @@ import tempfile
 
 TOP = os.path.dirname(os.path.dirname(os.path.dirname(os.path.abspath(__file__))))
 sys.path[:0] = [os.path.join(TOP, "operators"), os.path.join(TOP, "benches", "peers")]
-from common import Machine, print_list, run
+from numarun_host.cpus import print_list
+from numarun_host.machine import Machine
+from numarun_host.script import run
 from compare import MACHINES, Container, Numarun, machine_file, mix, written
 
 PARTS, SEED, MANY = (0.8, 0.95), 1, 255

@@ -34,7 +34,10 @@ import sys
 import tempfile
 
 sys.path.insert(0, os.path.join(os.path.dirname(os.path.abspath(__file__)), "..", "..", "operators"))
-from common import Machine, Refused, Run, print_list, read_list, run
+from numarun_host.cpus import print_list, read_list
+from numarun_host.machine import Machine
+from numarun_host.program import Run
+from numarun_host.script import Refused, run
 
 # The machine files, with the nodes of a socket; and how the siblings of a core are numbered: how many, and how far apart.
 MACHINES = {"two-socket": 1, "four-socket-ring": 1, "two-nodes-a-socket": 2, "four-nodes-a-socket": 4, "memory-only-nodes": 1}

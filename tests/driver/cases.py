@@ -82,7 +82,8 @@ class Driver(unittest.TestCase):
 
     def without_times(self, line: str) -> str:
         line = re.sub(r"^== \d\d:\d\d:\d\d ", "== ", line)
-        return re.sub(r"  +\d+\.\d  (passed|failed)", r" T \1", line).replace(str(self.top), "TOP")
+        line = re.sub(r"^all  +\d+\.\d  +\d+\.\d$", "all T", line)
+        return re.sub(r"  +\d+\.\d  +\d+\.\d  (passed|failed)", r" T \1", line).replace(str(self.top), "TOP")
 
     def test_all_pass(self) -> None:
         status, lines = self.run_of()
@@ -102,12 +103,13 @@ class Driver(unittest.TestCase):
             == last (5 of 5)
             tests/last.sh PROGRAM= TOOLS= PARTS=
             TOP
-            test   seconds  result
+            test   seconds  of processors  result
             first T passed
             maker T passed
             one T passed
             both T passed
             last T passed
+            all T
             5 passed, 0 failed""").splitlines())
         self.assertEqual(status, 0)
 
@@ -115,21 +117,22 @@ class Driver(unittest.TestCase):
         self.script("first", "exit 3")
         self.script("both", "kill -9 $$")
         status, lines = self.run_of()
-        self.assertEqual(lines[-6:], ["first T failed: status 3", "maker T passed", "one T passed", "both T failed: ended by signal 9",
-                                      "last T passed", "3 passed, 2 failed"])
+        self.assertEqual(lines[-7:], ["first T failed: status 3", "maker T passed", "one T passed", "both T failed: ended by signal 9",
+                                      "last T passed", "all T", "3 passed, 2 failed"])
         self.assertEqual(status, 1)
 
     def test_what_is_not_made_is_not_used(self) -> None:
         self.script("maker", "exit 1")
         status, lines = self.run_of()
-        self.assertEqual(lines[-6:], ["first T passed", "maker T failed: status 1", "one          -  not run: maker failed",
-                                      "both         -  not run: maker failed", "last T passed", "2 passed, 3 failed"])
+        self.assertEqual(lines[-7:], ["first T passed", "maker T failed: status 1", "one          -              -  not run: maker failed",
+                                      "both         -              -  not run: maker failed", "last T passed", "all T",
+                                      "2 passed, 3 failed"])
         self.assertFalse([line for line in lines if line.startswith(("tests/one.sh", "tests/both.sh", "== one", "== both"))])
         self.assertEqual(status, 1)
 
     def test_a_command_that_is_not_there(self) -> None:
         status, lines = self.run_of(tests="(cases.Test('gone', words=('no-such-command',)),)")
-        self.assertEqual(lines[-2:], ["gone T failed: no-such-command: No such file or directory", "0 passed, 1 failed"])
+        self.assertEqual(lines[-3:], ["gone T failed: no-such-command: No such file or directory", "all T", "0 passed, 1 failed"])
         self.assertEqual(status, 1)
 
     def test_names(self) -> None:

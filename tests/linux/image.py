@@ -13,10 +13,10 @@ import sys
 
 HERE = os.path.dirname(os.path.abspath(__file__))
 TOP = os.path.dirname(os.path.dirname(HERE))
-MODULES = """_strptime argparse bisect collections contextlib copy ctypes datetime encodings.ascii encodings.latin_1 encodings.utf_8 errno fcntl gettext
-itertools json linecache locale math os pathlib random re select selectors shlex shutil signal socket subprocess sys tempfile textwrap
-threading time tokenize traceback""".split()
-AT_A_DESK = "html pyexpat site typing xml.etree.ElementTree".split()
+MODULES = """__future__ _strptime argparse bisect collections contextlib copy ctypes dataclasses datetime encodings.ascii encodings.latin_1
+encodings.utf_8 enum errno fcntl gettext itertools json linecache locale logging math os pathlib random re select selectors
+shlex shutil signal socket subprocess sys tempfile textwrap threading time tokenize traceback typing zlib""".split()
+AT_A_DESK = "html pyexpat site xml.etree.ElementTree".split()
 PACKAGES = "bash dash coreutils sed grep mawk findutils gzip tar dpkg diffutils hwloc-nox hwloc".split()
 
 
@@ -77,7 +77,7 @@ def main(root, *files):
     for folder in ("operators", "tests/linux"):
         for place, _, names in os.walk(os.path.join(TOP, folder)):
             for name in names:
-                if name.endswith((".py", ".json")):
+                if name.endswith((".py", ".json")) or name.startswith("numarun-"):
                     path = os.path.join(place, name)
                     put(root, path, "/numarun/" + os.path.relpath(path, TOP))
     for path in files:

@@ -13,8 +13,8 @@ import time
 
 REPOSITORY = "/numarun"
 sys.path[:0] = [f"{REPOSITORY}/operators"]
-import common
-from common import print_list, read_list
+from numarun_host import machine as machines, program, script
+from numarun_host.cpus import print_list, read_list
 
 ROOT, TOP = "/sys/fs/cgroup", "/sys/fs/cgroup/numarun"
 PROGRAM, STOP = "/app/numarun", "/app/stop.so"
@@ -169,14 +169,14 @@ def settled(group):
 # The program.
 
 
-class Run(common.Run):
+class Run(program.Run):
     """An open run over the tree. `fail` is the call that is refused, and by what; `killed_behind` the one behind which it is killed."""
 
     def __init__(self, *more, root=ROOT, machine=MACHINE, fail=None, number=errno.EBUSY, killed_behind=None):
         wanted = {"STOP_ROOT": root, "STOP_ERRNO": str(number), "LD_PRELOAD": STOP}
         wanted.update({"STOP_FAIL": str(fail)} if fail else {}, **({"STOP_KILL": str(killed_behind)} if killed_behind else {}))
         with environment(wanted if fail or killed_behind else {}):
-            super().__init__(PROGRAM, machine, None, ("--cgroup", root, *more))
+            super().__init__(PROGRAM, machine, None, ("--cgroup", root, *more), patience=900)
 
     def one(self, line):
         """The only line of an answer."""

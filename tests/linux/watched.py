@@ -61,7 +61,7 @@ def go(name, path):
 
 
 def words(*more):
-    return ["/bin/python3", "-SEB", f"{tree.REPOSITORY}/operators/agent.py", tree.MACHINE, "--program", tree.PROGRAM, "--cgroup", ROOT,
+    return ["/bin/python3", "-SEB", f"{tree.REPOSITORY}/operators/numarun-agent", tree.MACHINE, "--patience", "900", "--pin", "all", "--pool-least", "0", "--program", tree.PROGRAM, "--cgroup", ROOT,
             "--work", WORK, *more]
 
 

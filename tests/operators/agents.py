@@ -1,7 +1,6 @@
-"""Tries agent.py over the program in plain folders: what it tells, what the groups request then, and how it goes on where a
+"""Tries numarun-agent over the program in plain folders: what it tells, what the groups request then, and how it goes on where a
 write, a group, a config or a line of input is not as it ought to be."""
 
-import importlib
 import json
 import os
 import re
@@ -11,9 +10,12 @@ import subprocess
 import sys
 
 from sites import IN_FOLDERS, QUOTA, SCRATCH, Open, Site, untimed
+from numarun_host import cgroups, sources
+from numarun_host.cpus import read_list
+from numarun_host.program import Run
+from numarun_host.script import Refused
 from trial import EXAMPLES, bad_files, bad_output, check, end, piped, refuses, told, words_and_help
 
-common, groups = importlib.import_module("common"), importlib.import_module("groups")
 
 MACHINE = os.path.join(EXAMPLES, "machines", "two-socket.json")
 DATABASE, PACKETS, WEB, CONTROL = (f"examples/bundles/{name}" for name in ("database", "packet-processing", "web", "real-time"))
@@ -23,16 +25,16 @@ PLAIN = (MACHINE, "--program", IN_FOLDERS)
 def plain():
     """Without a tree: the plans alone."""
     events = f"created database {DATABASE}\ncreated packets {PACKETS}\n"
-    status, out, err = told("agent.py", *PLAIN, text=events)
+    status, out, err = told("numarun-agent", *PLAIN, text=events)
     expected = [f"create database {DATABASE}", f"create packets {PACKETS}", "plan total 182", "hold database 1-3,6-8,17-19,22-24", "hold packets 4-5,20-21",
                 "pool 0,9-16,25-31", "done"]
     check("two containers at once", (status, untimed(out), err), (0, expected, ""))
     for more, expected in [("", 0), ("offline 5\n", 1), ("offline 5\nonline 5\n", 0), ("created x no\n", 1), ("ended nobody\n", 1),
                            ("offline 0\nrebalance\n", 1), ("ended packets\n", 0), ("\n", 0), ("foo\n", 1), ("created x\n", 1), ("\xff\n", 1),
                            (f"created ../x {WEB}\n", 1), ("x" * 300000 + "\nrebalance\n", 1)]:
-        status, out, err = told("agent.py", *PLAIN, text=events + more)
+        status, out, err = told("numarun-agent", *PLAIN, text=events + more)
         check(f"after {more[:40]!r}", (status, "plan" in out or "short demand 4" in out, err), (expected, True, ""))
-    status, out, _ = told("agent.py", *PLAIN, text=f"foo\ncreated x\nended x\ncreated .. {WEB}\n" + events + "offline 0\nrebalance\n")
+    status, out, _ = told("numarun-agent", *PLAIN, text=f"foo\ncreated x\nended x\ncreated .. {WEB}\n" + events + "offline 0\nrebalance\n")
     expected = ["refused: line 1: 'foo' is no event (see --help)", "refused: line 2: 'created x' is no event (see --help)",
                 "refused: line 3: unknown x", "refused E51 Reserved: offline 0", f"refused E91 BadId: .. {WEB}"]
     lines = untimed(out)
@@ -76,7 +78,7 @@ def under_its_id():
     site.come("a", 1)
     check("back under its id", "ended a" in agent.until("create a"), True)
     agent.until("done")
-    check("and pinned again", (site.has("a", "ghost")[1], len(common.read_list(site.has("a")[0], "a"))), ("3", 1))
+    check("and pinned again", (site.has("a", "ghost")[1], len(read_list(site.has("a")[0], "a"))), ("3", 1))
     shutil.rmtree(site.at("root/numarun/a"))
     agent.until("done")
     site.make_group("half")
@@ -146,7 +148,7 @@ def admission():
     agent.until("create c")
     agent.until("done")
     check("nobody waits for it", site.has("c"), ["7"])
-    check("ended while one waits", agent.end()[0], 1)
+    check("told to end while one waits", agent.end()[0], 0)
     site.log()
     agent = Open(site)
     agent.until("waits")
@@ -173,7 +175,7 @@ def fewer():
     site.come("c", 1)
     agent.until("create c")
     agent.until("done")
-    check("the others go on", (site.has("a", "b", "c"), agent.end()[0]), (["6", "1-2", "3"], 1))
+    check("the others go on", (site.has("a", "b", "c"), agent.end()[0]), (["6", "1-2", "3"], 0))
     site.log()
     check("after a restart", (site.run()[0], site.has("a", "b", "c"), sorted(set(site.log()))), (1, ["6", "1-2", "3"], ["a 6", "b 1-2", "c 3"]))
     site.online("0-7")
@@ -208,7 +210,7 @@ def named_cpus():
     site.come("a", "0-2,8-11", has="1-2,9-10")
     status, lines = site.run()
     check("the cores that it names", (status, [line for line in lines if line.startswith(("adopt", "fewer", "home"))], site.has("a")),
-          (0, [f"adopt a {site.at('work/bundles/told/a')} 1-2,9-10", "home a 0"], ["1-2,9-10"]))
+          (0, [f"adopt a {site.at('g/a')} 1-2,9-10", "home a 0"], ["1-2,9-10"]))
 
 
 def refused_sections():
@@ -219,9 +221,8 @@ def refused_sections():
     site.come("mems", linux={"resources": {"cpu": {"mems": "7"}}})
     agent = Open(site)
     lines = agent.until("done")
-    bundle = site.at("work/bundles/told/none")
     check("two that are refused", [line for line in lines if line.startswith(("refused", "adopt"))],
-          [f"adopt none {bundle} 1", f"refused E63 NoSuchCpu 90: none {site.at('g/none')}: it runs on the pool",
+          [f"adopt none {site.at('g/none')} 1", f"refused E63 NoSuchCpu 90: none {site.at('g/none')}: it runs on the pool",
            f"refused E65 NoSuchNode 7: mems {site.at('g/mems')}: it runs on the pool"])
     check("what they have", site.has("a", "none", "mems"), ["1-2", "0,3-7", "0,3-7"])
     site.come("new", "5", group=False)
@@ -304,12 +305,12 @@ def rest():
     agent = Open(site, "--rest", "system.slice,/user.slice/,init.scope")
     lines = agent.until("done")
     check("the rest of the machine", sorted(line for line in lines if line.startswith(("create", "adopt", "absent"))),
-          [f"adopt system.slice {site.at('work/bundles/rest')} 0-7", f"create a {site.at('g/a')}"])
+          [f"adopt system.slice {site.at('root/system.slice')} 0-7", f"create a {site.at('g/a')}"])
     site.make_group("x", group="user.slice")
     agent.until("done")
     has = [open(site.at("root", name, "cpuset.cpus")).read() for name in ("system.slice", "user.slice", "numarun/a")]
     check("it runs on the pool", (has, agent.end()[0]), (["0,3-7\n", "0,3-7\n", "1-2\n"], 0))
-    status, _, err = told("agent.py", *PLAIN, "--rest", "system.slice")
+    status, _, err = told("numarun-agent", *PLAIN, "--rest", "system.slice")
     check("without a tree", (status, "--rest is of a tree" in err), (2, True))
 
 
@@ -323,13 +324,15 @@ def recorded():
     check("a plan", site.run(*more)[0], 0)
     figures = dict(line.split(" ") for line in open(site.at("numarun.prom")).read().splitlines() if not line.startswith("#"))
     del figures["numarun_look_timestamp_seconds"]
-    expected = {"plans_total": "1", "moves_total": "5", "shortages_total": "0", "refused_writes_total": "0", "distance": "61", "distance_beyond_local": "11",
+    expected = {"plans_total": "1", "moves_total": "5", "steps_total": "2", "waited_seconds_total": "0", "squeezed_seconds_total": "0", "shortages_total": "0", "refused_writes_total": "0", "distance": "61", "distance_beyond_local": "11",
                 "containers_pinned": "1", "containers_shared": "1", "containers_waiting": "0", "containers_squeezed": "0", "undone": "0"}
     check("its figures", figures, {f"numarun_{name}": figure for name, figure in expected.items()})
     site.come("big", 4)
     check("a newcomer waits", site.run(*more, rounds="2")[0], 1)
     figures = open(site.at("numarun.prom")).read()
     check("and is counted", ["\nnumarun_containers_waiting 1\n" in figures, "\nnumarun_undone 1\n" in figures], [True, True])
+    waited = float(re.search(r"^numarun_waited_seconds_total (.+)$", figures, re.M)[1])
+    check("and for how long", 0.05 < waited < 30, True)
     kept = sorted(os.listdir(site.at("kept")))
     texts = [open(site.at("kept", name)).read() for name in kept]
     check("certificates by their dates", [bool(re.fullmatch(r"20[-0-9]{8}T[-0-9]{8}\.[0-9]{3}Z\.certificate", name)) for name in kept], [True] * len(kept))
@@ -338,7 +341,7 @@ def recorded():
     status, lines = site.run("--textfile", site.at("nowhere", "x"), "--certificates", site.at("kept"))
     check("a folder that is not there", (status, [line for line in lines if "nowhere" in line]),
           (1, [f"failed {site.at('nowhere', 'x')}: No such file or directory"]))
-    refuses("agent.py", *PLAIN, "--certificates", "/proc/no/where", says="/proc/no/where: No such file")
+    refuses("numarun-agent", *PLAIN, "--certificates", "/proc/no/where", says="/proc/no/where: No such file")
 
 
 def one_agent():
@@ -347,8 +350,8 @@ def one_agent():
     site.come("a", 1)
     agent = Open(site)
     agent.until("done")
-    status, out, err = told("agent.py", *site.words("--work", site.at("second")))
-    check("two agents, one tree", (status, out, err), (1, "", f"agent.py: {site.at('root')}: another agent or program has it\n"))
+    status, out, err = told("numarun-agent", *site.words("--work", site.at("second")))
+    check("two agents, one tree", (status, out, err), (1, "", f"numarun-agent: {site.at('root')}: another agent or program has it\n"))
     agent.process.kill()
     agent.process.wait()
     check("killed, and the next", site.run()[0], 0)
@@ -365,15 +368,15 @@ def beside_a_run():
     site = Site()
     site.come("a", 1)
     more = ("--cgroup", site.at("root"), "--adopt")
-    by_hand = common.Run(IN_FOLDERS, site.at("machine.json"), None, more)
-    check("an agent beside a run", told("agent.py", *site.words("--rounds", "1")), (1, "", f"agent.py: {site.at('root')}: another agent or program has it\n"))
+    by_hand = Run(IN_FOLDERS, site.at("machine.json"), None, more)
+    check("an agent beside a run", told("numarun-agent", *site.words("--rounds", "1")), (1, "", f"numarun-agent: {site.at('root')}: another agent or program has it\n"))
     by_hand.close()
     agent = Open(site)
     agent.until("done")
     try:
-        common.Run(IN_FOLDERS, site.at("machine.json"), None, more)
+        Run(IN_FOLDERS, site.at("machine.json"), None, more)
         why = "taken"
-    except common.Refused as refused:
+    except Refused as refused:
         why = str(refused)
     says = f"{site.at('machine.json')}: refused E50 KernelFault (error: {site.at('root')}: another program has it)"
     check("a run beside an agent", (why, site.has("a"), agent.end()[0]), (says, ["1"], 0))
@@ -403,7 +406,6 @@ def told_by_lines():
 def places():
     """Where runtimes say that a group is."""
     site = Site()
-    tree = groups.Tree(site.at("root"), site.at("work"), "numarun")
     state = site.at("state")
     os.mkdir(state)
     for config, file, expected in [
@@ -420,37 +422,37 @@ def places():
             os.remove(os.path.join(state, name))
         if file:
             json.dump(file[1], open(os.path.join(state, file[0]), "w"))
-        check(f"the group of {config} {file}", tree.group("c", state, config, None), site.at("root", expected))
+        check(f"the group of {config} {file}", cgroups.group_path(site.at("root"), "numarun", "c", config, state, None), site.at("root", expected))
     json.dump({"config": {"labels": ["x=y", "bundle=/some/where"]}}, open(os.path.join(state, "state.json"), "w"))
-    check("runc's bundle", groups.bundle_of(state), "/some/where")
+    check("runc's bundle", sources.bundle_of(state), "/some/where")
 
 
 def refusals():
-    words_and_help("agent.py", "operators/agent.py examples/machines/two-socket.json")
-    refuses("agent.py", MACHINE, "--program", "no-such-program", says="no-such-program: no program (see --program)")
-    bad_files("agent.py", ["--program", IN_FOLDERS])
-    bad_output("agent.py", *PLAIN, text="rebalance\n")
-    piped("agent.py", *PLAIN, text="rebalance\n")
+    words_and_help("numarun-agent", "operators/numarun-agent examples/machines/two-socket.json")
+    refuses("numarun-agent", MACHINE, "--program", "no-such-program", says="no-such-program: no program (see --program)")
+    bad_files("numarun-agent", ["--program", IN_FOLDERS])
+    bad_output("numarun-agent", *PLAIN, text="rebalance\n")
+    piped("numarun-agent", *PLAIN, text="rebalance\n")
     name = os.path.join(SCRATCH, "ends")
     with open(name, "w") as file:
         file.write("#!/bin/sh\nread line; echo settled; read line\n")
     os.chmod(name, 0o755)
-    status, _, err = told("agent.py", MACHINE, "--program", name, text="rebalance\n")
+    status, _, err = told("numarun-agent", MACHINE, "--program", name, text="rebalance\n")
     check("a program that ends", (status, "ends: ended at 'begin' with no answer, status 0" in err), (1, True))
-    refuses("agent.py", MACHINE, "--program", shutil.which("yes"), says=f"{MACHINE}: run ")
-    refuses("agent.py", *PLAIN, "--cgroup", "no-such-root", says="no-such-root: no folder")
-    refuses("agent.py", *PLAIN, "--slit", "no-such-table", says="refused E113 ReadFault")
-    check("a folder that is not there yet", told("agent.py", *PLAIN, "--watch", "no-such-folder", "--online", "/dev/null", "--rounds", "1")[0], 1)
-    refuses("agent.py", *PLAIN, "--watch", EXAMPLES, "--online", "no-such-list", says="no-such-list: No such file")
-    refuses("agent.py", *PLAIN, "--watch", EXAMPLES, "--online", "README.md", says="README.md: '# numarun")
-    check("no pause", told("agent.py", *PLAIN, "--pause", "inf")[0], 2)
+    refuses("numarun-agent", MACHINE, "--program", shutil.which("yes"), says=f"{MACHINE}: run ")
+    refuses("numarun-agent", *PLAIN, "--cgroup", "no-such-root", says="no-such-root: no folder")
+    refuses("numarun-agent", *PLAIN, "--slit", "no-such-table", says="refused E113 ReadFault")
+    check("a folder that is not there yet", told("numarun-agent", *PLAIN, "--watch", "no-such-folder", "--online", "/dev/null", "--rounds", "1")[0], 1)
+    refuses("numarun-agent", *PLAIN, "--watch", EXAMPLES, "--online", "no-such-list", says="no-such-list: No such file")
+    refuses("numarun-agent", *PLAIN, "--watch", EXAMPLES, "--online", "README.md", says="README.md: '# numarun")
+    check("no pause", told("numarun-agent", *PLAIN, "--pause", "inf")[0], 2)
     site = Site()
     open(site.at("root/cpuset.cpus.effective"), "w").write("8-30\n")
-    refuses("agent.py", *site.words(), says=f"machine.json: none of its CPUs is there, or in effect in {site.at('root')}")
+    refuses("numarun-agent", *site.words(), says=f"machine.json: none of its CPUs is there, or in effect in {site.at('root')}")
 
 
 for part in (plain, restart, under_its_id, refused_writes, admission, fewer, who_is_pinned, named_cpus, refused_sections, pool_hook, flapping, storm,
              rest, recorded, one_agent, beside_a_run, told_by_lines, places, refusals):
     if not sys.argv[1:] or part.__name__ in sys.argv[1:]:
         part()
-end("agent.py")
+end("numarun-agent")

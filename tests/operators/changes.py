@@ -5,14 +5,13 @@ import os
 import signal
 import sys
 import time
-from types import SimpleNamespace
 
 from sites import IN_FOLDERS, QUOTA, Open, Site
-from trial import OPERATORS, check, end
-
-sys.path.insert(0, OPERATORS)
-from common import read_list
-from sight import Sight
+from numarun_host.cpus import read_list
+from numarun_host.ledger import Ledger, Settings, Topic
+from numarun_host.machine import Machine
+from numarun_host.sightings import say_absent
+from trial import check, end
 
 LEAST, STAY = "numarun.least", "numarun.stay"
 
@@ -89,7 +88,7 @@ def among_several():
     site.log()
     site.online("0-2,4-7")
     lines = agent.until("done")
-    check("the youngest waits", (len(of(lines, "waits c")), site.has("a", "b"), writes(site, "a"), agent.end()[0]), (1, ["1", "2"], [], 1))
+    check("the youngest waits", (len(of(lines, "waits c")), site.has("a", "b"), writes(site, "a"), agent.end()[0]), (1, ["1", "2"], [], 0))
 
 
 def limits():
@@ -140,7 +139,7 @@ def kept_place():
     agent.until("done")
     site.online("0-5")
     lines = agent.until("done")
-    check("the younger one waits", (of(lines, "waits")[0].split(":")[0], count(site, "a"), agent.end()[0]), ("waits b", 3, 1))
+    check("the younger one waits", (of(lines, "waits")[0].split(":")[0], count(site, "a"), agent.end()[0]), ("waits b", 3, 0))
 
 
 def other_configs():
@@ -280,13 +279,13 @@ run.wait()
 
 
 def away_for_a_moment():
-    """The folder is away just when numarun reads a config: it is told of again, and nobody gets what it has meanwhile."""
+    """The copy of a config is away just when numarun reads it: it is told of again, and nobody gets what it has meanwhile."""
     site = Site()
     site.come("a", 2)
     site.run()
     site.come("b", "1-2")
     with open(site.at("proxy"), "w") as file:
-        file.write(PROXY.format(folder=site.at("g"), away=site.at("away")))
+        file.write(PROXY.format(folder=site.at("work/bundles/told/a"), away=site.at("away")))
     os.chmod(site.at("proxy"), 0o755)
     os.environ["IN_FOLDERS"] = IN_FOLDERS
     status, lines = site.run("--program", site.at("proxy"), rounds="8")
@@ -459,13 +458,10 @@ def least_room():
 
 def not_yet():
     """What a runtime is in the midst of making is called absent at the second look, and not at the first; or else at the end."""
-    lines, left = [], {}
-    looker = Sight(SimpleNamespace(tree=None, machine=None, words=None, open=left, say_once=lambda of, line: lines.append(line)))
-    looker.say_absent("a", "no such group")
-    check("at the first look", (lines, ("container", "a") in left), ([], True))
-    looker.say_absent("a", "no such group")
-    check("at the second", lines, ["absent a: no such group"])
     site = Site()
+    ledger = Ledger(Settings(Machine(site.at("machine.json"))))
+    check("at the first look", (list(say_absent(ledger, "a", "no such group")), (Topic.CONTAINER, "a") in ledger.problems), ([], True))
+    check("at the second", [said.line for said in say_absent(ledger, "a", "no such group")], ["absent a: no such group"])
     site.come("ghost", 1, group=False)
     status, said = site.run()
     check("at the end", (status, of(said, "absent")), (1, [f"absent ghost: {site.at('root/numarun/ghost')}: no such group"]))
@@ -494,4 +490,4 @@ PARTS = (gone_cpus, detour, among_several, limits, kept_place, other_configs, up
 for part in PARTS:
     if not sys.argv[1:] or part.__name__ in sys.argv[1:]:
         part()
-end("agent.py where something changes")
+end("numarun-agent where something changes")

@@ -1,6 +1,5 @@
-"""Tries dry-run.py: where a container would go, by hand; that another run comes to the same, and that nothing is written."""
+"""Tries numarun-dry-run: where a container would go, by hand; that another run comes to the same, and that nothing is written."""
 
-import json
 import os
 import shutil
 
@@ -31,7 +30,7 @@ each of these makes room by itself:
 
 
 def dry(*words, **more):
-    return told("dry-run.py", MACHINE, "--program", PROGRAM, *words, **more)
+    return told("numarun-dry-run", MACHINE, "--program", PROGRAM, "--pin", "all", *words, **more)
 
 
 for words, expected in CASES:
@@ -39,6 +38,12 @@ for words, expected in CASES:
 status, out, err = dry("--cpus", "1", "--cpuset-cpus", "4-5,20-21", *AFTER)
 check("no place", (status, out.startswith(NO_PLACE), err), (1, True, ""))
 
+status, out, err = dry("--cpus", "0.5", "--pin", "whole")
+check("a part of a CPU", (status, out.splitlines()[0], err), (0, "new asks for no CPUs of its own, and would run on the pool: 0-31", ""))
+status, out, err = dry("--cpus", "29")
+check("what is left to the pool", (status, " ".join(out.split()), err),
+      (1, "new has no place: it would leave 2 CPUs to the pool, and that keeps 4 (see --pool-least)", ""))
+check("where nothing is left to it", dry("--cpus", "30", "--pool-least", "0")[0], 0)
 running = os.path.join(SCRATCH, "running")
 for name, bundle in [("database", DATABASE), ("packets", PACKETS), ("a b", WEB), ("not-yet", None)]:
     os.makedirs(os.path.join(running, name))
@@ -54,27 +59,27 @@ with open(os.path.join(running, "not-yet", "config.json"), "w") as file:
     file.write("{")
 status, out, err = dry(CONTROL, "--running", running)
 check("a config that is not whole", (status, out.splitlines()[0], err),
-      (0, "new would have 12,28: 2 CPUs, distance 20", f"dry-run.py: passed over: {running}/not-yet: refused E56 NotJson\n"))
+      (0, "new would have 12,28: 2 CPUs, distance 20", f"numarun-dry-run: passed over: {running}/not-yet: refused E56 NotJson\n"))
 check("an open hand-over", dry(CONTROL, "--after", "-", text=f"create database {DATABASE}\nbegin\n")[1].splitlines()[0], "new would have 12,28: 2 CPUs, distance 20")
 check("an id that is taken", dry(CONTROL, "--after", "-", text=f"create new {WEB}\n")[1].splitlines()[0], "new-2 would have 12,28: 2 CPUs, distance 20")
 gone = f"create database {DATABASE}\nrebalance\nkill database KILL\n"
 check("one that has stopped", dry(CONTROL, "--after", "-", text=gone)[1].splitlines()[-1], "total distance: 20; 0 CPUs of the others would move")
 
-words_and_help("dry-run.py", "operators/dry-run.py examples/machines/two-socket.json examples/bundles/real-time")
-bad_files("dry-run.py", ["--program", PROGRAM], [WEB])
-bad_output("dry-run.py", MACHINE, WEB, "--program", PROGRAM)
-piped("dry-run.py", MACHINE, WEB, "--program", PROGRAM)
-refuses("dry-run.py", MACHINE, "--program", PROGRAM, says="no container: name its bundle, or what it asks for (see --help)")
-refuses("dry-run.py", MACHINE, WEB, "--cpus", "2", "--program", PROGRAM, says="a bundle tells what it asks for, so that no option can")
-refuses("dry-run.py", MACHINE, "no-bundle", "--program", PROGRAM, says="no-bundle: refused E111 NoBundle")
-refuses("dry-run.py", MACHINE, "--cpuset-cpus", "3-99", "--program", PROGRAM, says="what is asked for: refused E63 NoSuchCpu 32")
-refuses("dry-run.py", MACHINE, "--cpuset-mems", "x", "--program", PROGRAM, says="what is asked for: refused E64 BadMems E10 0")
-refuses("dry-run.py", MACHINE, WEB, "--id", "a/b", "--program", PROGRAM, says="refused E91 BadId")
-refuses("dry-run.py", MACHINE, WEB, "--after", "no-script", "--program", PROGRAM, says="no-script: No such file")
-refuses("dry-run.py", MACHINE, WEB, "--running", "no-folder", "--program", PROGRAM, says="no-folder: No such file")
-refuses("dry-run.py", MACHINE, WEB, "--online", "no-list", "--program", PROGRAM, says="no-list: No such file")
-refuses("dry-run.py", MACHINE, WEB, "--program", "no-such-program", says="no-such-program: no program (see --program)")
-refuses("dry-run.py", MACHINE, WEB, "--after", "-", "--program", PROGRAM, text="list\nfoo bar\n", says="standard input: line 2: refused E110 BadLine: 'foo bar'")
+words_and_help("numarun-dry-run", "operators/numarun-dry-run examples/machines/two-socket.json examples/bundles/real-time")
+bad_files("numarun-dry-run", ["--program", PROGRAM], [WEB])
+bad_output("numarun-dry-run", MACHINE, WEB, "--program", PROGRAM)
+piped("numarun-dry-run", MACHINE, WEB, "--program", PROGRAM)
+refuses("numarun-dry-run", MACHINE, "--program", PROGRAM, says="no container: name its bundle, or what it asks for (see --help)")
+refuses("numarun-dry-run", MACHINE, WEB, "--cpus", "2", "--program", PROGRAM, says="a bundle tells what it asks for, so that no option can")
+refuses("numarun-dry-run", MACHINE, "no-bundle", "--program", PROGRAM, says="no-bundle: refused E111 NoBundle")
+refuses("numarun-dry-run", MACHINE, "--cpuset-cpus", "3-99", "--program", PROGRAM, says="what is asked for: refused E63 NoSuchCpu 32")
+refuses("numarun-dry-run", MACHINE, "--cpuset-mems", "x", "--program", PROGRAM, says="what is asked for: refused E64 BadMems E10 0")
+refuses("numarun-dry-run", MACHINE, WEB, "--id", "a/b", "--program", PROGRAM, says="refused E91 BadId")
+refuses("numarun-dry-run", MACHINE, WEB, "--after", "no-script", "--program", PROGRAM, says="no-script: No such file")
+refuses("numarun-dry-run", MACHINE, WEB, "--running", "no-folder", "--program", PROGRAM, says="no-folder: No such file")
+refuses("numarun-dry-run", MACHINE, WEB, "--online", "no-list", "--program", PROGRAM, says="no-list: No such file")
+refuses("numarun-dry-run", MACHINE, WEB, "--program", "no-such-program", says="no-such-program: no program (see --program)")
+refuses("numarun-dry-run", MACHINE, WEB, "--after", "-", "--program", PROGRAM, text="list\nfoo bar\n", says="standard input: line 2: refused E110 BadLine: 'foo bar'")
 for words in (["--cpus", "0"], ["--cpus", "nan"], ["--cpus", "x"], ["--after", "x", "--running", "y"]):
     check(f"{words}", dry(WEB, *words)[0], 2)
-end("dry-run.py")
+end("numarun-dry-run")

@@ -1,22 +1,18 @@
-"""Tries explain.py: texts by hand, and what it claims of random plans and shortages, tried out by the program: a CPU more that is
+"""Tries numarun-explain: texts by hand, and what it claims of random plans and shortages, tried out by the program: a CPU more that is
 like another brings the total down by no more than it says, a container that asks for one more adds no less, what is named as
 enough makes room, and one CPU less of it does not."""
 
 import copy
-import importlib
 import json
 import os
 import random
 import re
 import shutil
-import sys
 
-from trial import EXAMPLES, OPERATORS, bad_files, bad_output, check, end, piped, refuses, told, words_and_help
-
-sys.path.insert(0, OPERATORS)
-answers = importlib.import_module("answers")
-common = importlib.import_module("common")
-explain = importlib.import_module("explain")
+from trial import EXAMPLES, bad_files, bad_output, check, end, piped, refuses, told, words_and_help
+from numarun_host import answers, cpus as lists, explain
+from numarun_host.machine import Machine
+from numarun_host.program import Run
 
 PROGRAM, SCRATCH = os.environ["PROGRAM"], os.environ["SCRATCH"]
 MACHINE = os.path.join(EXAMPLES, "machines", "two-socket.json")
@@ -162,16 +158,16 @@ def by_hand():
     json.dump(TINY, open(SMALL, "w"))
     for name, text, expected in [("far", FAR, FAR_TOLD), ("moved", MOVED, MOVED_TOLD), ("bound", BOUND, BOUND_TOLD), ("short", SHORT, SHORT_TOLD),
                                  ("short twice", TWICE, TWICE_TOLD), ("not sure", NOT_SURE, NOT_SURE_TOLD)]:
-        check(name, told("explain.py", SMALL, text=text), (0, expected, ""))
+        check(name, told("numarun-explain", SMALL, text=text), (0, expected, ""))
     json.dump(PAIRS, open(CORES, "w"))
     for name, text, expected in [("far", FAR, FAR_OF_CORES), ("moved", MOVED, MOVED_OF_CORES), ("short", SHORT, SHORT_OF_CORES), ("not sure", NOT_SURE, NOT_SURE_OF_CORES)]:
-        check(f"{name}, of cores", told("explain.py", CORES, text=text), (0, expected, ""))
-    check("one alone", told("explain.py", SMALL, "--only", "a", text=FAR), (0, "\n".join(FAR_TOLD.splitlines()[:2]) + "\n", ""))
-    check("the last of several", told("explain.py", SMALL, text=SHORT + FAR), (0, FAR_TOLD, ""))
-    check("an empty plan", told("explain.py", SMALL, text=EMPTY), (0, EMPTY_TOLD, ""))
+        check(f"{name}, of cores", told("numarun-explain", CORES, text=text), (0, expected, ""))
+    check("one alone", told("numarun-explain", SMALL, "--only", "a", text=FAR), (0, "\n".join(FAR_TOLD.splitlines()[:2]) + "\n", ""))
+    check("the last of several", told("numarun-explain", SMALL, text=SHORT + FAR), (0, FAR_TOLD, ""))
+    check("an empty plan", told("numarun-explain", SMALL, text=EMPTY), (0, EMPTY_TOLD, ""))
     for why, text, old, new in WRONG:
         says = f"standard input: line 1: the certificate proves nothing, as {why} (see numarun check)"
-        refuses("explain.py", SMALL, text=text.replace(old, new), says=says)
+        refuses("numarun-explain", SMALL, text=text.replace(old, new), says=says)
 
 
 # What is claimed, tried out.
@@ -187,7 +183,7 @@ def run_of(machine, containers):
         config = {"ociVersion": "1.0.2", "root": {"path": "r"}, "linux": {"resources": {"cpu": section}}}
         json.dump(config, open(os.path.join(bundle, "config.json"), "w"))
         lines.append(f"create {name} {bundle}")
-    one = common.Run(PROGRAM, path)
+    one = Run(PROGRAM, path)
     try:
         for line in lines:
             if one.ask(line)[0].startswith("refused"):
@@ -195,7 +191,7 @@ def run_of(machine, containers):
         found = one.ask("rebalance") + one.ask("certificate")
     finally:
         one.close()
-    machine = common.Machine(path)
+    machine = Machine(path)
     return machine, answers.Answers("-", machine, found)
 
 
@@ -206,7 +202,7 @@ def random_case(random, threads):
     containers, count = {}, nodes * each
 
     def cpus_of(cores):
-        return common.print_list({core + count * k for core in cores for k in range(threads)})
+        return lists.print_list({core + count * k for core in cores for k in range(threads)})
 
     machine = {"nodes": [cpus_of(range(each * k, each * k + each)) for k in range(nodes)], "distances": rows, "reserved": cpus_of([0])}
     if threads > 1:
@@ -222,7 +218,7 @@ def random_case(random, threads):
 def plan_holds(machine, containers, found, random):
     """What is said of a plan: one more for a container, and one more CPU, or core, like another."""
     told, total = found.certificates[0], found.plans[0].total
-    of = common.Machine(os.path.join(SCRATCH, "m.json"))
+    of = Machine(os.path.join(SCRATCH, "m.json"))
     plan, threads = explain.Explained(told, of), of.threads
     for name in containers:
         least = int(re.search(r"would add ([0-9]+) or more", plan.one_more(name))[1])
@@ -233,15 +229,15 @@ def plan_holds(machine, containers, found, random):
             return f"{name} asks for one more: {after.plans[0].total} < {total} + {least}"
     text = "\n".join(line for name in told.demand for line in plan.lines(name))
     for cpus, worth in re.findall(r"another (?:CPU|core) like (\S+) would bring the total down by up to ([0-9]+)", text):
-        like = random.choice(sorted(common.read_list(cpus, "")))
-        new, bigger, wider = len(common.read_list(",".join(machine["nodes"]), "")), copy.deepcopy(machine), copy.deepcopy(containers)
-        new = common.print_list(range(new, new + threads))
-        node = next(k for k, one in enumerate(machine["nodes"]) if like in common.read_list(one, ""))
+        like = random.choice(sorted(lists.read_list(cpus, "")))
+        new, bigger, wider = len(lists.read_list(",".join(machine["nodes"]), "")), copy.deepcopy(machine), copy.deepcopy(containers)
+        new = lists.print_list(range(new, new + threads))
+        node = next(k for k, one in enumerate(machine["nodes"]) if like in lists.read_list(one, ""))
         bigger["nodes"][node] += f",{new}"
         if threads > 1:
             bigger["cores"].append(new)
         for section in wider.values():
-            if "cpus" in section and like in common.read_list(section["cpus"], ""):
+            if "cpus" in section and like in lists.read_list(section["cpus"], ""):
                 section["cpus"] += f",{new}"
         after = run_of(bigger, wider)[1].plans[0]
         if after.total < total - int(worth):
@@ -284,7 +280,7 @@ def shortage_heals(machine, containers, text, threads):
     for name, count, cpus in re.findall(r"^  allow (\S+) ([0-9]+) CPUs? more, as (\S+?)(?:,$|, if.*)?$", text, re.M):
         wider = copy.deepcopy(containers)
         wider[name]["cpus"] += f",{cpus}"
-        if int(count) != missing or len(common.read_list(cpus, "")) != missing or not is_planned(machine, wider):
+        if int(count) != missing or len(lists.read_list(cpus, "")) != missing or not is_planned(machine, wider):
             return f"{name} is allowed {count}: {cpus}"
     together = re.search(r"being served first: shrink (.*)", text)
     fewer, taken = copy.deepcopy(containers), 0
@@ -327,7 +323,7 @@ def large():
     json.dump(machine, open(path, "w"))
     rows = [f"row c{k} 4 10:{max(1, 4 * k)}-{4 * k + 3},{4 * (k + 1) % 4096 or 1}" for k in range(1023)] + ["row c1023 5 10:4092-4095,1"]
     text = "\n".join(["numarun-certificate 1", *rows, *(f"short c{k}" for k in range(1024)), "end", ""])
-    status, out, err = told("explain.py", path, text=text)
+    status, out, err = told("numarun-explain", path, text=text)
     said = ["missing: 2 CPUs", "  end c1023, or shrink it from 5 to 3 CPUs", "  end c0, or shrink it from 4 to 2 CPUs", "  (not tried of 976 others)"]
     check("a large shortage", (status, [line for line in said if line in out.splitlines()], err), (0, said, ""))
 
@@ -336,22 +332,22 @@ by_hand()
 tried_out(60, 1)
 tried_out(30, 7, threads=2)
 large()
-words_and_help("explain.py", "operators/explain.py examples/machines/two-socket.json")
-bad_files("explain.py", [], [ANSWERS])
-bad_files("explain.py", [MACHINE])
-bad_output("explain.py", MACHINE, ANSWERS)
-piped("explain.py", MACHINE, ANSWERS)
-refuses("explain.py", MACHINE, text="", says="standard input: line 1: the answers have no certificate: put the command `certificate`")
-refuses("explain.py", MACHINE, text=FAR + "plan total 10\nhold a 1\npool 0\nend\n", says="line 11: no certificate stands behind this outcome")
-refuses("explain.py", MACHINE, text=FAR.replace("end\n", ""), says="line 10: the certificate has no end")
-refuses("explain.py", SMALL, text=FAR.replace("4-7", "4-8"), says="line 2: the machine has no CPU 8")
-refuses("explain.py", CORES, text=FAR.replace("4-7", "4-8"), says="line 2: CPU 8 is the lowest of no core")
-refuses("explain.py", SMALL, text=FAR.replace("10:2", "10-2"), says="line 4: '10-2' is no offer")
-refuses("explain.py", SMALL, text=FAR.replace("row c", "row b"), says="line 4: 'row b 1 10:2' is no line of a certificate")
+words_and_help("numarun-explain", "operators/numarun-explain examples/machines/two-socket.json")
+bad_files("numarun-explain", [], [ANSWERS])
+bad_files("numarun-explain", [MACHINE])
+bad_output("numarun-explain", MACHINE, ANSWERS)
+piped("numarun-explain", MACHINE, ANSWERS)
+refuses("numarun-explain", MACHINE, text="", says="standard input: line 1: the answers have no certificate: put the command `certificate`")
+refuses("numarun-explain", MACHINE, text=FAR + "plan total 10\nhold a 1\npool 0\nend\n", says="line 11: no certificate stands behind this outcome")
+refuses("numarun-explain", MACHINE, text=FAR.replace("end\n", ""), says="line 10: the certificate has no end")
+refuses("numarun-explain", SMALL, text=FAR.replace("4-7", "4-8"), says="line 2: the machine has no CPU 8")
+refuses("numarun-explain", CORES, text=FAR.replace("4-7", "4-8"), says="line 2: CPU 8 is the lowest of no core")
+refuses("numarun-explain", SMALL, text=FAR.replace("10:2", "10-2"), says="line 4: '10-2' is no offer")
+refuses("numarun-explain", SMALL, text=FAR.replace("row c", "row b"), says="line 4: 'row b 1 10:2' is no line of a certificate")
 for old, new, says in [("21:4-5", "21:3-5", "line 3: CPU 3 stands twice"), ("price 11 1-3", "price 11 1-3\nprice 0 3", "line 9: CPU 3 stands twice"),
                        ("hold b", "hold a", "line 6: 'hold a 1,4 21' is no line"), ("total 51", "total 51 moves 0", "line 9: 'total 51 moves 0' is no line")]:
-    refuses("explain.py", SMALL, text=FAR.replace(old, new), says=says)
-refuses("explain.py", SMALL, text=SHORT.replace("short b", "short a"), says="line 6: 'short a' is no line of a certificate")
-refuses("explain.py", SMALL, text=FAR.replace("price 11", "price x"), says="line 8: 'x' is no number")
-refuses("explain.py", SMALL, "--only", "d", text=FAR, says="line 1: the certificate has no row 'd'")
-end("explain.py")
+    refuses("numarun-explain", SMALL, text=FAR.replace(old, new), says=says)
+refuses("numarun-explain", SMALL, text=SHORT.replace("short b", "short a"), says="line 6: 'short a' is no line of a certificate")
+refuses("numarun-explain", SMALL, text=FAR.replace("price 11", "price x"), says="line 8: 'x' is no number")
+refuses("numarun-explain", SMALL, "--only", "d", text=FAR, says="line 1: the certificate has no row 'd'")
+end("numarun-explain")

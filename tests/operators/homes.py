@@ -1,14 +1,14 @@
-"""Tries the homes that the agent and dry-run.py give to containers which name no nodes of memory, and containers that are never moved."""
+"""Tries the homes that the agent and numarun-dry-run give to containers which name no nodes of memory, and containers that are never moved."""
 
-import importlib
 import os
 import sys
 
 from sites import IN_FOLDERS, QUOTA, Open, Site
-from trial import OPERATORS, check, end, told
+from numarun_host import homes
+from numarun_host.cpus import read_list
+from numarun_host.machine import Machine
+from trial import check, end, told
 
-sys.path.insert(0, OPERATORS)
-homes, common, slices = (importlib.import_module(name) for name in ("homes", "common", "slices"))
 # Four nodes of two cores with two CPUs each; 0 is at 15 from 1, and 2 from 3.
 FOUR = {"nodes": ["0-3", "4-7", "8-11", "12-15"], "distances": [[10, 15, 30, 30], [15, 10, 30, 30], [30, 30, 10, 15], [30, 30, 15, 10]],
         "reserved": "0-1", "cores": [f"{cpu}-{cpu + 1}" for cpu in range(0, 16, 2)]}
@@ -26,7 +26,7 @@ def memory(site, *free):
 def chosen():
     """By hand: the fewest nodes, near each other, with little more than is asked for; memory decides where it is short."""
     site = Site(FOUR)
-    machine = common.Machine(site.at("machine.json"))
+    machine = Machine(site.at("machine.json"))
     free = machine.present - machine.reserved
     for count, limit, told, taken, expected in [
         (2, 0, (9, 9, 9, 9), "", {0}),       # node 0 has one core left: it fits best
@@ -43,10 +43,14 @@ def chosen():
     ]:
         memory(site, *(GIB * gib for gib in told))
         config = {"linux": {"resources": {"memory": {"limit": limit * GIB}}}}
-        found = homes.home_of(machine, config, count, free - common.read_list(taken, "taken"), site.at("nodes"))
+        found = homes.home_of(machine, config, count, free - read_list(taken, "taken"), homes.free_memory(site.at("nodes"), machine))
         check(f"a home for {count} CPUs and {limit} GiB of {told} without {taken!r}", found, expected)
+    site = Site({"nodes": ["0-1", "2-3", "4-5", "6-7"], "distances": [[10 if a == b else 30 if {a, b} == {1, 2} else 20 for b in range(4)] for a in range(4)],
+                 "reserved": "0"})
+    spread = Machine(site.at("machine.json"))
+    check("two large nodes rather than three near ones", homes.home_of(spread, {}, 4, spread.present - {0, 7}, {}), {1, 2})
     named = {"linux": {"resources": {"cpu": {"mems": "3"}}}}
-    check("one that names its nodes", homes.home_of(machine, named, 2, free, site.at("nodes")), None)
+    check("one that names its nodes", homes.home_of(machine, named, 2, free, homes.free_memory(site.at("nodes"), machine)), None)
 
 
 def kept():
@@ -103,25 +107,25 @@ def later():
     check("it waits", [line for line in agent.until("done") if line.startswith(("home", "waits"))][-1].split(":")[0], "waits c")
     site.go("b")
     check("room", "home c 1" in agent.until("done"), True)
-    check("its CPUs", (len(common.read_list(site.has("c")[0], "c")), site.file("numarun/c", "cpuset.mems"), agent.end()[0]), (3, "1", 0))
+    check("its CPUs", (len(read_list(site.has("c")[0], "c")), site.file("numarun/c", "cpuset.mems"), agent.end()[0]), (3, "1", 0))
 
 
 def shown():
-    """dry-run.py has the same homes."""
+    """numarun-dry-run has the same homes."""
     site = Site(TWO)
     memory(site, GIB, 2 * GIB)
-    words = (site.at("machine.json"), "--program", IN_FOLDERS, "--after", "-")
+    words = (site.at("machine.json"), "--program", IN_FOLDERS, "--pool-least", "0", "--after", "-")
     script = f"create a {site.at('g/a')}\nrebalance\n"
     site.come("a", linux={"resources": {"cpu": {"quota": 3 * QUOTA, "period": QUOTA, "mems": "0"}}})
-    status, out, _ = told("dry-run.py", *words, "--cpus", "3", text=script)
+    status, out, _ = told("numarun-dry-run", *words, "--cpus", "3", text=script)
     check("the other node", (status, out.splitlines()), (0, ["new would have 4-6: 3 CPUs, distance 30", "its home would be node 1", "total distance: 60; 0 CPUs of the others would move"]))
-    status, out, _ = told("dry-run.py", *words, "--cpus", "2", "--nodes", site.at("nodes"))
+    status, out, _ = told("numarun-dry-run", *words, "--cpus", "2", "--nodes", site.at("nodes"))
     check("on an empty machine", out.splitlines()[1], "its home would be node 0")
     site.come("b", 3)
-    status, out, _ = told("dry-run.py", *words[:3], "--running", site.at("g"), "--nodes", site.at("nodes"), "--cpus", "1")
+    status, out, _ = told("numarun-dry-run", *words[:5], "--running", site.at("g"), "--nodes", site.at("nodes"), "--cpus", "1")
     check("beside others, which have homes too", out.splitlines(), ["new would have 7: 1 CPU, distance 10", "its home would be node 1",
                                                                    "total distance: 70; 0 CPUs of the others would move"])
-    status, out, _ = told("dry-run.py", *words, "--cpus", "5", "--home", "none", text=script)
+    status, out, _ = told("numarun-dry-run", *words, "--cpus", "5", "--home", "none", text=script)
     check("without homes", "home" in out, False)
 
 
@@ -155,7 +159,7 @@ def staying():
     check("a limit that is lowered", site.has("db"), ["4"])
     site.online("0-3,5-7")
     agent.until("done")
-    check("its CPU goes", (site.has("db")[0] != "4", len(common.read_list(site.has("db")[0], "db")), agent.end()[0]), (True, 1, 0))
+    check("its CPU goes", (site.has("db")[0] != "4", len(read_list(site.has("db")[0], "db")), agent.end()[0]), (True, 1, 0))
 
 
 def staying_over_restarts():

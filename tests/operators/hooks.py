@@ -1,4 +1,4 @@
-"""Tries hook.py: a runtime tells of a container by it, and it waits until the agent has answered."""
+"""Tries numarun-hook: a runtime tells of a container by it, and it waits until the agent has answered."""
 
 import json
 import os
@@ -24,7 +24,7 @@ def prepared(site, name, *more, **section):
 
 def begun(site, name, *words):
     """The hook, which waits."""
-    process = subprocess.Popen(command("hook.py", site.at("told"), "--agent", site.at("work/hooks"), *words), cwd=TOP,
+    process = subprocess.Popen(command("numarun-hook", site.at("told"), "--agent", site.at("work/hooks"), *words), cwd=TOP,
                                stdin=subprocess.PIPE, stdout=subprocess.PIPE, stderr=subprocess.PIPE)
     process.stdin.write(state_of(site, name).encode())
     process.stdin.close()
@@ -43,26 +43,26 @@ def hooked():
     os.mkdir(site.at("told"))
     os.rename(site.at("g/a"), site.at("bundle"))
     state = {"ociVersion": "1.0.2", "id": "a", "status": "created", "pid": os.getpid(), "bundle": site.at("bundle")}
-    check("a container", told("hook.py", site.at("told"), text=json.dumps(state)), (0, "", ""))
+    check("a container", told("numarun-hook", site.at("told"), text=json.dumps(state)), (0, "", ""))
     group = json.load(open(site.at("told/a/status")))["cgroup-path"] if os.path.exists(site.at("told/a/status")) else "/numarun/a"
     site.make_group("a", group=group.strip("/"))
     status, lines = site.run("--watch", site.at("told"))
     check("it is told", (status, lines[0]), (0, f"create a {site.at('told/a')}"))
     first = os.stat(site.at("told/a")).st_ino
-    check("told again", told("hook.py", site.at("told"), text=json.dumps({**state, "status": "creating"})), (0, "", ""))
+    check("told again", told("numarun-hook", site.at("told"), text=json.dumps({**state, "status": "creating"})), (0, "", ""))
     check("as another one", os.stat(site.at("told/a")).st_ino != first, True)
     for _ in range(2):
-        check("gone", told("hook.py", site.at("told"), text=json.dumps({**state, "status": "stopped", "pid": 0})), (0, "", ""))
+        check("gone", told("numarun-hook", site.at("told"), text=json.dumps({**state, "status": "stopped", "pid": 0})), (0, "", ""))
         check("nothing is left", os.listdir(site.at("told")), [])
     for text, says in [("", "not JSON"), ("[]", "no JSON object"), ("{}", "no id in the"), (json.dumps({**state, "id": "../x"}), "'../x' is no id"),
                        (json.dumps({**state, "bundle": "/no"}), "/no/config.json: no such file"), ("x" * (1 << 20 | 1), "more than 1048576 bytes")]:
-        refuses("hook.py", site.at("told"), text=text, says=says)
-    words_and_help("hook.py", "/usr/local/bin/numarun-hook")
+        refuses("numarun-hook", site.at("told"), text=text, says=says)
+    words_and_help("numarun-hook", "/usr/local/bin/numarun-hook")
     for name in ("a\0b", "\ud800", "a b", "", ".x", "x" * 65, "ä"):
-        refuses("hook.py", site.at("told"), text=json.dumps({**state, "id": name}), says="is no id")
+        refuses("numarun-hook", site.at("told"), text=json.dumps({**state, "id": name}), says="is no id")
     for bundle in ("/a\0b", "/\ud800"):
-        refuses("hook.py", site.at("told"), text=json.dumps({**state, "bundle": bundle}), says="is no bundle")
-    check("a wait without time", told("hook.py", site.at("told"), "--wait", "0", text=json.dumps(state))[0], 2)
+        refuses("numarun-hook", site.at("told"), text=json.dumps({**state, "bundle": bundle}), says="is no bundle")
+    check("a wait without time", told("numarun-hook", site.at("told"), "--wait", "0", text=json.dumps(state))[0], 2)
 
 
 def answered():
@@ -83,10 +83,10 @@ def answered():
     check("it is told", os.path.isdir(site.at("told/big")), True)
     prepared(site, "must", 7)
     status, out, err = ended(begun(site, "must", "--wait", "15", "--need-place"))
-    check("no place for one that needs it", (status, out, err.startswith("hook.py: no place waits must"), os.path.exists(site.at("told/must"))), (1, "", True, False))
+    check("no place for one that needs it", (status, out, err.startswith("numarun-hook: no place waits must"), os.path.exists(site.at("told/must"))), (1, "", True, False))
     prepared(site, "bad", linux={"resources": {"cpu": {"mems": "7"}}})
     status, out, err = ended(begun(site, "bad", "--wait", "15"))
-    check("refused", (status, out, err), (1, "", f"hook.py: refused E65 NoSuchNode 7: bad {site.at('told/bad')}: it runs on the pool\n"))
+    check("refused", (status, out, err), (1, "", f"numarun-hook: refused E65 NoSuchNode 7: bad {site.at('told/bad')}: it runs on the pool\n"))
     check("it ends", agent.end()[0], 1)
 
 
@@ -95,7 +95,7 @@ def in_time():
     site = Site()
     prepared(site, "a", 2)
     status, out, err = ended(begun(site, "a", "--wait", "0.5"))
-    says = f"hook.py: {site.at('work/hooks')}: the agent has not answered of a in 0.5 s\n"
+    says = f"numarun-hook: {site.at('work/hooks')}: the agent has not answered of a in 0.5 s\n"
     check("no agent", (status, out, err, os.listdir(site.at("told"))), (1, "", says, []))
     hook = begun(site, "a", "--wait", "60")
     time.sleep(0.3)
@@ -121,7 +121,26 @@ def far_away():
     agent.end(signal.SIGTERM)
 
 
-for part in (hooked, answered, in_time, far_away):
+def status():
+    """What the running agent knows: a table, and JSON."""
+    site = Site()
+    for name, cpus in (("a", 2), ("s", 0), ("big", 7)):
+        site.come(name, cpus)
+    agent = Open(site)
+    agent.until("done")
+    found, out, err = told("numarun-agent", "status", "--agent", site.at("work/hooks"))
+    lines = [line.split() for line in out.splitlines()]
+    check("a table", (found, err, lines[0], lines[2:6]), (0, "", ["pool", "0,3-7,", "reserved", "0,", "offline", "-"], [
+        ["container", "state", "CPUs", "nodes", "asks", "why"], ["a", "pinned", "1-2", "0", "2"], ["s", "shared", "0,3-7", "0", "-"],
+        "big waiting 0,3-7 0 7 waits big: short demand 9 allowed 1-7: it runs on the pool until there is room".split()]))
+    known = json.loads(told("numarun-agent", "status", "--json", "--agent", site.at("work/hooks"))[1])
+    check("as JSON", ([(entry["id"], entry["state"], entry["given"]) for entry in known["containers"]], [entry["kind"] for entry in known["undone"]]),
+          ([("a", "pinned", 2), ("s", "shared", None), ("big", "waiting", None)], ["waits"]))
+    agent.end()
+    refuses("numarun-agent", "status", "--agent", site.at("work/hooks"), says="no agent answers: Connection refused")
+
+
+for part in (hooked, answered, in_time, far_away, status):
     if not sys.argv[1:] or part.__name__ in sys.argv[1:]:
         part()
-end("hook.py")
+end("numarun-hook")

@@ -1,4 +1,4 @@
-"""Compares the machine files that describe-hwloc.py makes of hwloc's recorded machines with those that stand for them."""
+"""Compares the machine files that numarun-describe makes of hwloc's recorded machines with those that stand for them."""
 
 import json
 import os
@@ -21,7 +21,7 @@ LAST = "80000000" + ",0x0" * 127
 
 def recorded(name, *words, said=(), **expected):
     """The machine file of a recorded machine has these members; each line on standard error says one of these, in their order."""
-    status, out, err = told("describe-hwloc.py", os.path.join(MACHINES, name + ".xml"), *words)
+    status, out, err = told("numarun-describe hwloc", os.path.join(MACHINES, name + ".xml"), *words)
     found = json.loads(out) if status == 0 else {}
     check(name, {key: found.get(key) for key in expected}, expected)
     lines = err.splitlines()
@@ -29,7 +29,7 @@ def recorded(name, *words, said=(), **expected):
 
 
 def same_as_by_hand(name, reserved):
-    told_here = told("describe-hwloc.py", os.path.join(MACHINES, name + ".xml"), "--reserved", reserved)[1]
+    told_here = told("numarun-describe hwloc", os.path.join(MACHINES, name + ".xml"), "--reserved", reserved)[1]
     expected = json.load(open(os.path.join(TOP, "examples", "machines", name + ".json")))
     del expected["about"]
     expected.pop("cores", None)
@@ -48,7 +48,7 @@ def of_cores():
     expected = json.load(open(os.path.join(TOP, "examples", "machines", "two-socket.json")))
     del expected["about"]
     for words in ([], ["--reserved", "16,0"]):
-        status, out, err = told("describe-hwloc.py", "--cores", *words, text=with_cores(*reversed(pairs)))
+        status, out, err = told("numarun-describe hwloc", "--cores", *words, text=with_cores(*reversed(pairs)))
         check(f"cores {words}", (status, json.loads(out or "{}"), err), (0, {**expected, "offline": ""}, ""))
     for cores, words, says in [
         (pairs[:5] + [(5,)], (), "--cores: cores have different numbers of CPUs: 0,16 and 5"),
@@ -59,7 +59,7 @@ def of_cores():
         (pairs + [(15, 31, 32)], (), "--cores: the core 15,31-32 has CPUs of another one"),
         (pairs, ("--reserved", "0-1,16"), "--cores: the core 1,17 is reserved in part"),
     ]:
-        refuses("describe-hwloc.py", "--cores", *words, text=with_cores(*cores), says=says)
+        refuses("numarun-describe hwloc", "--cores", *words, text=with_cores(*cores), says=says)
 
 
 def same_as_of_this_machine():
@@ -67,8 +67,8 @@ def same_as_of_this_machine():
         print("hwloc: passed over, as there is no lstopo: what it tells of this machine")
         return
     tells = subprocess.run(["lstopo", "--disallowed", "--of", "xml"], capture_output=True, check=True).stdout.decode()
-    expected = told("describe-host.sh")
-    found = told("describe-hwloc.py", text=tells)
+    expected = told("numarun-describe host")
+    found = told("numarun-describe hwloc", text=tells)
     check("this machine", (found[0], json.loads(found[1] or "{}")), (expected[0], json.loads(expected[1] or "{}")))
 
 
@@ -85,31 +85,31 @@ recorded("memory-and-a-hole", "--renumber", "--cores", said=FROM_ITSELF, reserve
 recorded("no-distances", "--reserved", "7", said=["it tells no distances"], nodes=["0-1", "2-3", "4-5", "6-7"], reserved="7",
          distances=[[10 if a == b else 255 for b in range(4)] for a in range(4)], offline="")
 
-status, out, err = told("describe-hwloc.py", text=NODE.format(online=LAST, all=LAST, node=127))
+status, out, err = told("numarun-describe hwloc", text=NODE.format(online=LAST, all=LAST, node=127))
 check("the last node and CPU", (status, json.loads(out or "{}").get("nodes")), (0, [""] * 127 + ["4095"]))
 
-status, out, err = told("describe-hwloc.py", text=ALLOWED.format(here="0f", node=""))
+status, out, err = told("numarun-describe hwloc", text=ALLOWED.format(here="0f", node=""))
 check("a restricted shell", (status, json.loads(out)["nodes"], err.splitlines()), (0, ["0-3"], [
-    "describe-hwloc.py: left out, as no node has them: CPUs 4-7",
-    "describe-hwloc.py: offline, or not allowed to the shell that ran lstopo, which `lstopo --disallowed` tells apart: CPUs 4-7"]))
-status, out, err = told("describe-hwloc.py", text=ALLOWED.format(here="3f", node=SECOND))
+    "numarun-describe: left out, as no node has them: CPUs 4-7",
+    "numarun-describe: offline, or not allowed to the shell that ran lstopo, which `lstopo --disallowed` tells apart: CPUs 4-7"]))
+status, out, err = told("numarun-describe hwloc", text=ALLOWED.format(here="3f", node=SECOND))
 check("a restricted shell and --disallowed", (status, json.loads(out)["nodes"], json.loads(out)["offline"], "not allowed the CPUs 4-5;" in err),
       (0, ["0-3", "4-7"], "6-7", True))
 
-words_and_help("describe-hwloc.py", "lstopo --disallowed --of xml | describe-hwloc.py")
-bad_files("describe-hwloc.py", [])
-bad_output("describe-hwloc.py", TWO_SOCKET)
-piped("describe-hwloc.py", TWO_SOCKET)
-piped("describe-host.sh")
-refuses("describe-hwloc.py", text='<?xml version="1.0" encoding="none"?><a/>', says="-: line 1: an unknown encoding")
-refuses("describe-hwloc.py", text=open(TWO_SOCKET).read()[:700], says="-: line ")
-refuses("describe-hwloc.py", text="<html/>", says="first object is no Machine")
-refuses("describe-hwloc.py", TWO_SOCKET, "--reserved", "32", says="reserved CPUs that are not online: 32")
-refuses("describe-hwloc.py", os.path.join(MACHINES, "offline.xml"), "--cores", says="--cores: no core is told of the CPUs")
-refuses("describe-hwloc.py", TWO_SOCKET, "--reserved", "x", says="--reserved: 'x' is no CPU")
-refuses("describe-hwloc.py", text=NODE.format(online="1", all="1", node=128), says="node 128: a machine file has nodes 0 to 127")
-refuses("describe-hwloc.py", text=NODE.format(online="1", all="1", node="x"), says="NUMANode x: no os_index")
-refuses("describe-hwloc.py", text=NODE.format(online="f...f", all="f...f", node=0), says="no finite bitmap")
-refuses("describe-hwloc.py", text=NODE.format(online="1", all="1" + ",0x0" * 128, node=0), says="CPU 4096: a machine file has")
-refuses("describe-hwloc.py", text=NODE.format(online="0", all="1", node=0), says="no CPU is online")
-end("describe-hwloc.py")
+words_and_help("numarun-describe hwloc", "lstopo --disallowed --of xml | operators/numarun-describe hwloc")
+bad_files("numarun-describe hwloc", [])
+bad_output("numarun-describe hwloc", TWO_SOCKET)
+piped("numarun-describe hwloc", TWO_SOCKET)
+piped("numarun-describe host")
+refuses("numarun-describe hwloc", text='<?xml version="1.0" encoding="none"?><a/>', says="-: line 1: an unknown encoding")
+refuses("numarun-describe hwloc", text=open(TWO_SOCKET).read()[:700], says="-: line ")
+refuses("numarun-describe hwloc", text="<html/>", says="first object is no Machine")
+refuses("numarun-describe hwloc", TWO_SOCKET, "--reserved", "32", says="reserved CPUs that are not online: 32")
+refuses("numarun-describe hwloc", os.path.join(MACHINES, "offline.xml"), "--cores", says="--cores: no core is told of the CPUs")
+refuses("numarun-describe hwloc", TWO_SOCKET, "--reserved", "x", says="--reserved: 'x' is no CPU")
+refuses("numarun-describe hwloc", text=NODE.format(online="1", all="1", node=128), says="node 128: a machine file has nodes 0 to 127")
+refuses("numarun-describe hwloc", text=NODE.format(online="1", all="1", node="x"), says="NUMANode x: no os_index")
+refuses("numarun-describe hwloc", text=NODE.format(online="f...f", all="f...f", node=0), says="no finite bitmap")
+refuses("numarun-describe hwloc", text=NODE.format(online="1", all="1" + ",0x0" * 128, node=0), says="CPU 4096: a machine file has")
+refuses("numarun-describe hwloc", text=NODE.format(online="0", all="1", node=0), says="no CPU is online")
+end("numarun-describe hwloc")

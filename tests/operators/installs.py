@@ -6,14 +6,14 @@ import re
 import shutil
 import subprocess
 
-from trial import TOP, check, end, refuses, told
+from trial import OPERATORS, TOP, check, end, refuses, told
 
 PROGRAM = os.path.abspath(os.environ["PROGRAM"])
 PREFIX = os.path.join(os.environ["SCRATCH"], "installed here")
 MACHINE = os.path.join(TOP, "examples", "machines", "two-socket.json")
 ANSWERS = os.path.join(TOP, "examples", "scripts", "before-and-after.answers")
 DATABASE = os.path.join(TOP, "examples", "bundles", "database")
-NAMES = ["agent", "describe-host", "describe-hwloc", "draw-plan", "dry-run", "explain", "hook"]
+NAMES = ["agent", "describe", "draw-plan", "dry-run", "explain", "hook"]
 HERE = {**os.environ, "PROGRAM": PROGRAM}
 
 
@@ -53,8 +53,10 @@ first = standing()
 check("the commands", sorted(name for name in os.listdir(os.path.join(PREFIX, "bin"))), ["numarun"] + [f"numarun-{name}" for name in NAMES] + ["other"])
 pages = [name for name in first if name.startswith("share/") and not name.endswith("/")]
 kept = [os.path.relpath(os.path.join(folder, name), TOP) for of in ("bundles", "machines", "scripts") for folder, _, names in os.walk(os.path.join(TOP, "examples", of)) for name in names]
-kept += ["docs/formats.md", "examples/caches.certificate", "examples/caches.problem", "examples/two-containers.certificate"]
-check("the pages", sorted(pages), sorted([f"share/doc/numarun/{name}" for name in kept] + ["share/man/man1/numarun.1"]))
+kept += ["operators/" + name for name in os.listdir(OPERATORS) if name.endswith(".md")]
+kept += ["docs/formats.md", "docs/two-socket.svg", "examples/caches.certificate", "examples/caches.problem", "examples/two-containers.certificate"]
+check("the pages", sorted(pages), sorted([f"share/doc/numarun/{name}" for name in kept] +
+      ["share/man/man1/numarun.1", "share/man/man8/numarun-agent.8", "share/man/man8/numarun-hook.8"]))
 listed = open(os.path.join(PREFIX, "lib", "numarun", "installed")).read().splitlines()
 check("the list is what is new", sorted(listed), sorted(set(first) - set(BEFORE)))
 check("the unit alone names the prefix", [name for name, told in first.items() if told and PREFIX in str(told[0])],
@@ -77,7 +79,7 @@ check("numarun-agent", installed("numarun-agent", MACHINE, text=f"created databa
 check("numarun-draw-plan", installed("numarun-draw-plan", "--before", MACHINE, ANSWERS), (0, open(os.path.join(TOP, "docs", "two-socket.svg")).read(), ""))
 check("numarun-explain", installed("numarun-explain", MACHINE, ANSWERS)[1].splitlines()[0], "plan: total distance 140, 2 cores moved; none is far from home")
 check("numarun-dry-run", installed("numarun-dry-run", MACHINE, DATABASE)[1].splitlines()[0], "new would have 1-6,17-22: 12 CPUs, distance 120")
-check("numarun-describe-host", installed("numarun-describe-host")[:2], told("describe-host.sh")[:2])
+check("numarun-describe", installed("numarun-describe", "host")[:2], told("numarun-describe host")[:2])
 check("what a refusal is named by", installed("numarun-explain", "no-file")[2], "numarun-explain: no-file: No such file or directory\n")
 
 moved = PREFIX + " after all"
@@ -94,8 +96,8 @@ taken_away("taken away", BEFORE)
 refuses("install.sh", "--uninstall", PREFIX, says="installed: no such file: nothing is installed there")
 
 told("install.sh", PREFIX, env=HERE)
-os.makedirs(os.path.join(PREFIX, "lib", "numarun", "__pycache__"), exist_ok=True)
-open(os.path.join(PREFIX, "lib", "numarun", "__pycache__", "common.cpython-311.pyc"), "w").close()
+os.makedirs(os.path.join(PREFIX, "lib", "numarun", "numarun_host", "__pycache__"), exist_ok=True)
+open(os.path.join(PREFIX, "lib", "numarun", "numarun_host", "__pycache__", "cpus.cpython-311.pyc"), "w").close()
 open(os.path.join(PREFIX, "lib", "numarun", "mine"), "w").close()
 taken_away("what somebody else put there stays", sorted(BEFORE + ["lib/", "lib/numarun/", "lib/numarun/mine"]))
 for name in ("../x", "/etc/x", "a/../../x", "", "./a"):

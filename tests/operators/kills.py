@@ -15,10 +15,8 @@ import threading
 import time
 
 from sites import IN_FOLDERS
+from numarun_host.cpus import read_list
 from trial import OPERATORS, check, end
-
-sys.path.insert(0, OPERATORS)
-from common import read_list
 
 SEED, MOMENTS = (int(word) for word in (sys.argv[1:] + ["1", "40"][len(sys.argv) - 1:])[:2])
 RESERVED = {0, 8}
@@ -116,9 +114,9 @@ class World:
 
 def agent(folder, *more):
     words = [f"{folder}/machine.json", "--program", IN_FOLDERS, "--cgroup", f"{folder}/root", "--work", f"{folder}/work"]
-    words += ["--watch", f"{folder}/g", "--online", f"{folder}/online", "--pause", "0.02", "--home", "none", *more]
+    words += ["--watch", f"{folder}/g", "--online", f"{folder}/online", "--pause", "0.02", "--pin", "all", "--pool-least", "0", "--home", "none", *more]
     out = open(f"{folder}/out", "a")
-    return subprocess.Popen([sys.executable, "-B", os.path.join(OPERATORS, "agent.py"), *words], stdout=out, stderr=out)
+    return subprocess.Popen([sys.executable, "-B", os.path.join(OPERATORS, "numarun-agent"), *words], stdout=out, stderr=out)
 
 
 def main(folder):
@@ -150,11 +148,11 @@ def main(folder):
     told = {kind: sum(line.split(" ")[1:2] == [kind] for line in said) for kind in ("adopt", "create", "ended", "plan", "hold")}
     check("adopted some", told["adopt"] * 4 > MOMENTS, True)
     check("no traceback", "Traceback" in "\n".join(said), False)
-    print(f"agent.py: killed {MOMENTS} times: {world.looks} looks ({world.torn} torn), {len(world.had)} of {world.count} had their CPUs, {told}")
+    print(f"numarun-agent: killed {MOMENTS} times: {world.looks} looks ({world.torn} torn), {len(world.had)} of {world.count} had their CPUs, {told}")
     if os.environ.get("KEEP"):
         shutil.copy(f"{folder}/out", os.environ["KEEP"])
 
 
 with tempfile.TemporaryDirectory() as scratch:
     main(scratch)
-end("agent.py")
+end("numarun-agent")

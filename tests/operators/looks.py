@@ -57,7 +57,7 @@ check("a quick look at nothing", told_of("/dev/null")[0], 1)
 check("a quick look at nothing named", told("quick-look.sh", env=kit)[:2], (0, together("plans")))
 piped("quick-look.sh", env=kit)
 drawn = open(os.path.join(TOP, "docs", "two-socket.svg")).read()
-check("a picture of what it prints", told("draw-plan.py", "--before", MACHINE, text=together("before-and-after"))[:2], (0, drawn))
+check("a picture of what it prints", told("numarun-draw-plan", "--before", MACHINE, text=together("before-and-after"))[:2], (0, drawn))
 with open(os.path.join(folder, "rt"), "w") as file:
     file.write("#!/bin/sh\necho pid 2\nexit 3\n")
 check("a program that fails", told_of(os.path.join(SCRIPTS, "plans"))[:2], (3, "> create database examples/bundles/database\npid 2\n"))

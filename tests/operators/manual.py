@@ -1,13 +1,16 @@
-"""Compares the man page with the help that the program prints: its words are the help's. mandoc looks at it, where it is."""
+"""Compares the man page with the help that the program prints: its words are the help's. The pages of the agent and of the hook name options
+that there are. mandoc looks at them, where it is."""
 
 import os
 import re
 import shutil
 import subprocess
 
-from trial import TOP, check, end
+from trial import OPERATORS, TOP, check, end
+from trial import told as said
 
 PAGE = os.path.join(TOP, "docs", "numarun.1")
+PAGES = [os.path.join(OPERATORS, name) for name in ("numarun-agent.8", "numarun-hook.8")]
 PROGRAM = os.environ["PROGRAM"]
 
 
@@ -43,9 +46,16 @@ for command in ("check", "list", "slit", "run", "solve"):
     check(f"the page has an example of {command}", example.split(" <")[0] in open(PAGE).read(), True)
 for command in re.findall(r"^\| `([a-z]+)[^|]*\| (?:to|for|whether|that) ", open(os.path.join(TOP, "docs", "formats.md")).read(), re.M):
     check(f"the page has the line {command}", f".It Cm {command}" in open(PAGE).read(), True)
+for path in PAGES:
+    helps = said(os.path.basename(path)[:-2], "--help")[1]
+    options = re.findall(r"^\.It Fl (-[a-z-]+)", open(path).read(), re.M)
+    check(f"options of {os.path.basename(path)}", [option for option in options if f"-{option} " not in helps], [])
+    check("and there are some", len(options) > 2, True)
 if shutil.which("mandoc"):
     found = subprocess.run(["mandoc", "-T", "lint", PAGE], capture_output=True)
     check("mandoc -T lint", (found.returncode, found.stdout.decode()), (0, ""))
+    found = subprocess.run(["mandoc", "-T", "lint", "-W", "warning", *PAGES], capture_output=True)
+    check("mandoc -T lint of the others", (found.returncode, found.stdout.decode()), (0, ""))
 else:
     print("numarun.1: passed over, as there is no mandoc: mandoc -T lint")
 end("numarun.1")

@@ -7,6 +7,7 @@ import os
 import re
 import shlex
 import shutil
+import socket
 import subprocess
 import sys
 import time
@@ -44,6 +45,9 @@ def goes_on():
     prefix = installed("of one's own")
     unit = unit_of(prefix)
     check("started again", (unit["Service"]["Restart"], unit["Unit"]["StartLimitIntervalSec"], int(unit["Service"]["RestartSec"]) >= 5), ("always", "0", True))
+    check("ready behind a look, and watched", (unit["Service"]["Type"], int(unit["Service"]["WatchdogSec"]) > 120, unit["Service"]["RuntimeDirectoryPreserve"]),
+          ("notify", True, "yes"))
+    check("not without a machine file", unit["Unit"]["ConditionPathExists"], "/etc/numarun/machine.json")
     check("no limit stands where it counts for nothing", "StartLimitIntervalSec" in unit["Service"], False)
     site = Site()
     for group in ("system.slice", "more.slice"):
@@ -58,21 +62,27 @@ def goes_on():
     ran = subprocess.run([*words, *WORDS, "--online", site.at("online"), "--work", site.at("work"), "--rounds", "1"], capture_output=True)
     check("OPTIONS adds", (ran.returncode, site.has("a", "b"), site.file("system.slice"), site.file("more.slice")), (0, ["1-2", "3"], "0,4-7", "0,4-7"))
     check("taken away", told("install.sh", "--uninstall", prefix)[0], 0)
-    status, out, _ = told("agent.py", "--release", "--cgroup", site.at("root"), "--work", site.at("work"))
+    status, out, _ = told("numarun-agent", "--release", "--cgroup", site.at("root"), "--work", site.at("work"))
     check("and given back", (status, site.file("system.slice"), site.has("a")), (0, "", [""]))
 
 
+def unit_block(page):
+    """What a page says to type until the unit is enabled, without its comments."""
+    blocks = re.findall(r"```sh\n(.*?)```", open(os.path.join(OPERATORS, page)).read(), re.S)
+    return re.sub(r"\s+#.*", "", next(block for block in blocks if "systemctl enable" in block))
+
+
 def by_the_page():
-    """What the page says to type makes a machine file with cores, and an agent that starts by it before any container ran."""
+    """What the pages say to type makes a machine file with cores, and an agent that starts by it before any container ran."""
     prefix, etc, bin = installed("prefix"), os.path.join(SCRATCH, "etc"), os.path.join(SCRATCH, "bin")
-    page = open(os.path.join(OPERATORS, "README.md")).read()
-    block = next(block for block in re.findall(r"```sh\n(.*?)```", page, re.S) if "systemctl enable" in block)
+    block = unit_block("README.md")
+    check("the first page and install.md say the same", unit_block("install.md"), block)
     os.makedirs(bin)
     with open(os.path.join(bin, "systemctl"), "w") as file:
         file.write(f'#!/bin/sh\necho "$@" > {shlex.quote(os.path.join(etc, "systemctl"))}\n')
     os.chmod(os.path.join(bin, "systemctl"), 0o755)
     here = {**os.environ, "PATH": f"{bin}:{prefix}/bin:{os.environ['PATH']}"}
-    status, _, err = told("describe-host.sh", "--cores")
+    status, _, err = told("numarun-describe host", "--cores")
     if status:
         print(f"the commands of the page: passed over: {err.strip()}")
         return
@@ -85,6 +95,23 @@ def by_the_page():
     words = begun(unit_of(prefix), "", **{"/etc/numarun/machine.json": machine, "/sys/fs/cgroup": site.at("root"), "/run/crun": site.at("no-such")})
     ran = subprocess.run([*words, *WORDS, "--work", site.at("work"), "--rounds", "3"], capture_output=True)
     check("it starts", (ran.returncode, ran.stdout.decode().count("refused"), ran.stderr), (0, 0, b""))
+
+
+def notified():
+    """systemd is told that it is ready behind the first look, that it works, and that it ends."""
+    site = Site()
+    path = site.at("notify")
+    with socket.socket(socket.AF_UNIX, socket.SOCK_DGRAM) as door:
+        door.bind(path)
+        door.settimeout(30)
+        os.environ.update(NOTIFY_SOCKET=path, WATCHDOG_USEC="1000000")
+        agent = Open(site, "--pause", "3600")
+        heard = [door.recv(100), door.recv(100)]
+        del os.environ["NOTIFY_SOCKET"], os.environ["WATCHDOG_USEC"]
+        status, _ = agent.end()
+        while heard[-1] == b"WATCHDOG=1":
+            heard.append(door.recv(100))
+    check("systemd is told", (status, heard[:2], heard[-1]), (0, [b"READY=1", b"WATCHDOG=1"], b"STOPPING=1"))
 
 
 def before_any_container():
@@ -150,7 +177,7 @@ def tried(root, path):
     check("nothing is left", left, [])
 
 
-for part in (goes_on, by_the_page, before_any_container, package):
+for part in (goes_on, by_the_page, notified, before_any_container, package):
     if not sys.argv[1:] or part.__name__ in sys.argv[1:]:
         part()
 end("the unit and the package")

@@ -1,4 +1,4 @@
-"""Compares what draw-plan.py draws of the worked examples with the pictures that stand for them, and looks at large ones."""
+"""Compares what numarun-draw-plan draws of the worked examples with the pictures that stand for them, and looks at large ones."""
 
 import json
 import os
@@ -61,7 +61,7 @@ PLAN = "plan total 20\nhold a 1-2\npool 0,3-15,17-31\nend\n"
 
 
 def stands(name, path, *words):
-    check(name, told("draw-plan.py", *words), (0, open(path).read(), ""))
+    check(name, told("numarun-draw-plan", *words), (0, open(path).read(), ""))
 
 
 def answers_of(cpus, containers, last):
@@ -80,14 +80,14 @@ def large(cpus, nodes, containers):
     path = os.path.join(os.environ["SCRATCH"], f"machine-{cpus}.json")
     json.dump(machine, open(path, "w"))
     text = answers_of(cpus, containers, cpus - 2)
-    status, drawn, _ = told("draw-plan.py", path, "--text", text=text)
+    status, drawn, _ = told("numarun-draw-plan", path, "--text", text=text)
     check(f"{cpus} CPUs as text", (status, max(map(len, drawn.splitlines())) <= 80), (0, True))
     check(f"{cpus} CPUs as text: legend", drawn.count(f"distance {21 * ((cpus - 3) // containers)}:"), containers)
     rows = [row[8:] for row in drawn.splitlines() if re.match(r"[ 0-9]{5}[0-9]  \S", row)]
     signs = "".join(sign for row in rows for sign in re.findall(r"[a-zA-Z]+", row))
     check(f"{cpus} CPUs as text: offline", signs.count("x"), 1)
     check(f"{cpus} CPUs as text: held", len(signs) - 1, (1 if containers <= 50 else 2) * ((cpus - 3) // containers) * containers)
-    status, drawn, _ = told("draw-plan.py", path, text=text)
+    status, drawn, _ = told("numarun-draw-plan", path, text=text)
     check(f"{cpus} CPUs", (status, drawn.count("<title>CPU "), drawn.count(": offline</title>")), (0, cpus, 1))
     apart(f"{cpus} CPUs", xml.fromstring(drawn))
 
@@ -100,12 +100,12 @@ def cores(cpus, threads, nodes):
     path = os.path.join(os.environ["SCRATCH"], f"cores-{cpus}-{threads}.json")
     json.dump(machine, open(path, "w"))
     text = f"plan total 0\npool 0-{cpus - 1}\nend\n"
-    status, drawn, _ = told("draw-plan.py", path, "--text", text=text)
+    status, drawn, _ = told("numarun-draw-plan", path, "--text", text=text)
     rows = [row[8:] for row in drawn.splitlines() if re.match(r"[ 0-9]{5}[0-9]  \S", row)]
     check(f"{threads} CPUs a core as text", (status, max(map(len, drawn.splitlines())) <= 80, sum(map(len, "".join(rows).split()))), (0, True, cpus))
     check(f"{threads} CPUs a core apart", {len(word) for row in rows for word in row.split()}, {threads} if threads <= 64 else {64})
     for words in ((path,), (path, "--before")):
-        status, drawn, _ = told("draw-plan.py", *words, text=text * len(words))
+        status, drawn, _ = told("numarun-draw-plan", *words, text=text * len(words))
         check(f"{words}", (status, drawn.count("<title>CPU "), drawn.count('fill="#c4c4c4"')), (0, cpus * len(words), len(of) * len(words)))
         titles = [int(number) for number in re.findall("<title>CPU ([0-9]+):", drawn)]
         together = [titles[k : k + threads] for k in range(0, len(titles), threads)]
@@ -141,43 +141,43 @@ for size in [(8, 2, 3), (32, 2, 6), (256, 8, 24), (1024, 64, 200), (4096, 128, 1
 for size in [(12, 3, 2), (64, 2, 2), (256, 8, 4), (512, 128, 2), (4096, 2, 128), (4096, 8, 16)]:
     cores(*size)
 
-words_and_help("draw-plan.py", "draw-plan.py examples/machines/two-socket.json < answers")
-bad_files("draw-plan.py", [], [ANSWERS])
-bad_files("draw-plan.py", [MACHINE])
-bad_output("draw-plan.py", MACHINE, ANSWERS)
-refuses("draw-plan.py", ANSWERS, says="before-and-after.answers: line 1: not JSON")
-refuses("draw-plan.py", MACHINE, text="", says="standard input: line 1: the answers end with no plan and no shortage")
-refuses("draw-plan.py", MACHINE, "--before", text=PLAN, says="standard input: line 5: the answers have no plan before the last outcome")
+words_and_help("numarun-draw-plan", "operators/numarun-draw-plan examples/machines/two-socket.json < answers")
+bad_files("numarun-draw-plan", [], [ANSWERS])
+bad_files("numarun-draw-plan", [MACHINE])
+bad_output("numarun-draw-plan", MACHINE, ANSWERS)
+refuses("numarun-draw-plan", ANSWERS, says="before-and-after.answers: line 1: not JSON")
+refuses("numarun-draw-plan", MACHINE, text="", says="standard input: line 1: the answers end with no plan and no shortage")
+refuses("numarun-draw-plan", MACHINE, "--before", text=PLAN, says="standard input: line 5: the answers have no plan before the last outcome")
 bad = os.path.join(os.environ["SCRATCH"], "bad-cores.json")
 for lists, says in [("x", "cores: not an array of lists"), (["0,8", "1,2,9"], "cores: core 1: not as many CPUs as core 0 has"), (["0,1"], "cores: core 0: not"),
                     (["0,8", "4,3"], "cores: core 1: not"), (["0,8", 7], "cores: core 1: no list of CPUs"), (["0,8", "1,x"], "cores: core 1: 'x' is no CPU"),
                     (["0,8", "1,9", "9,2"], "cores: core 2: not"), ([""], "cores: core 0: not"), (["0,8", "1,9"], "cores: CPU 2 is in no core"), ([], "cores: CPU 0 is in no core")]:
     json.dump({**PAIRS, "cores": lists}, open(bad, "w"))
-    refuses("draw-plan.py", bad, text=PLAN, says=f"bad-cores.json: {says}")
-refuses("draw-plan.py", MACHINE, text=PLAN[:-4], says="standard input: line 4: the plan has no end")
-refuses("draw-plan.py", MACHINE, text=PLAN.replace("31", "32"), says="standard input: line 3: the machine has no CPU 32")
-refuses("draw-plan.py", MACHINE, text=PLAN.replace("1-2", "1-x"), says="standard input: line 2: '1-x' is no CPU")
-refuses("draw-plan.py", MACHINE, text=PLAN.replace("hold", "held"), says="standard input: line 2: 'held a 1-2' is no line")
-refuses("draw-plan.py", MACHINE, text=PLAN.replace("1-2", "1-3"), says="standard input: line 3: CPU 3 stands twice")
-refuses("draw-plan.py", MACHINE, text=PLAN + "numarun-certificate 1\nrow a 2 x\n", says="standard input: line 6: 'x' is no offer")
+    refuses("numarun-draw-plan", bad, text=PLAN, says=f"bad-cores.json: {says}")
+refuses("numarun-draw-plan", MACHINE, text=PLAN[:-4], says="standard input: line 4: the plan has no end")
+refuses("numarun-draw-plan", MACHINE, text=PLAN.replace("31", "32"), says="standard input: line 3: the machine has no CPU 32")
+refuses("numarun-draw-plan", MACHINE, text=PLAN.replace("1-2", "1-x"), says="standard input: line 2: '1-x' is no CPU")
+refuses("numarun-draw-plan", MACHINE, text=PLAN.replace("hold", "held"), says="standard input: line 2: 'held a 1-2' is no line")
+refuses("numarun-draw-plan", MACHINE, text=PLAN.replace("1-2", "1-3"), says="standard input: line 3: CPU 3 stands twice")
+refuses("numarun-draw-plan", MACHINE, text=PLAN + "numarun-certificate 1\nrow a 2 x\n", says="standard input: line 6: 'x' is no offer")
 
 
 def shortages():
     """Shortages in text, to the letter, and as a picture: which CPU says what, and that no two texts overlap."""
     json.dump({"nodes": ["0-3", "4-7"], "distances": [[10, 21], [21, 10]], "reserved": "0"}, open(TINY, "w"))
-    check("a shortage", told("draw-plan.py", TINY, "--text", text=SHORT + SHORT_TOLD), (0, SHORT_DRAWN, ""))
+    check("a shortage", told("numarun-draw-plan", TINY, "--text", text=SHORT + SHORT_TOLD), (0, SHORT_DRAWN, ""))
     path = os.path.join(os.environ["SCRATCH"], "pairs.json")
     json.dump(PAIRS, open(path, "w"))
-    check("a shortage of cores", told("draw-plan.py", path, "--text", text=SHORT_OF_CORES + SHORT_TOLD), (0, CORES_DRAWN, ""))
-    check("a shortage last", told("draw-plan.py", TINY, "--text", text=TINY_PLAN + SHORT + SHORT_TOLD), (0, SHORT_DRAWN, ""))
-    check("a shortage without its certificate", told("draw-plan.py", TINY, "--text", text=SHORT), (0, BARE_DRAWN, ""))
-    check("before and a shortage", told("draw-plan.py", TINY, "--text", "--before", text=TINY_PLAN + SHORT + SHORT_TOLD), (0, BEFORE_DRAWN, ""))
-    check("a plan behind a shortage", told("draw-plan.py", TINY, "--text", text=SHORT + TINY_PLAN)[1].startswith("total distance 41"), True)
+    check("a shortage of cores", told("numarun-draw-plan", path, "--text", text=SHORT_OF_CORES + SHORT_TOLD), (0, CORES_DRAWN, ""))
+    check("a shortage last", told("numarun-draw-plan", TINY, "--text", text=TINY_PLAN + SHORT + SHORT_TOLD), (0, SHORT_DRAWN, ""))
+    check("a shortage without its certificate", told("numarun-draw-plan", TINY, "--text", text=SHORT), (0, BARE_DRAWN, ""))
+    check("before and a shortage", told("numarun-draw-plan", TINY, "--text", "--before", text=TINY_PLAN + SHORT + SHORT_TOLD), (0, BEFORE_DRAWN, ""))
+    check("a plan behind a shortage", told("numarun-draw-plan", TINY, "--text", text=SHORT + TINY_PLAN)[1].startswith("total distance 41"), True)
     two = TINY_PLAN + SHORT + TINY_PLAN.replace("a 1-2", "a 1,3").replace("pool 0,3", "pool 0,2")
-    status, out, _ = told("draw-plan.py", TINY, "--text", "--before", text=two)
+    status, out, _ = told("numarun-draw-plan", TINY, "--text", "--before", text=two)
     check("the plan before, over a shortage", (status, out.splitlines()[-2:]), (0, ["moves:", "  a a: gives 2, gets 3"]))
     for more in ([], ["--before"]):
-        status, drawn, err = told("draw-plan.py", TINY, *more, text=TINY_PLAN + SHORT + SHORT_TOLD)
+        status, drawn, err = told("numarun-draw-plan", TINY, *more, text=TINY_PLAN + SHORT + SHORT_TOLD)
         titles = re.findall("<title>(CPU .*)</title>", drawn)[-8:]
         each = ["CPU 0: reserved", "CPU 1: a", "CPU 2: for several", "CPU 3: b"] + [f"CPU {cpu}: for none" for cpu in range(4, 8)]
         check(f"a shortage drawn {more}", (status, titles, err), (0, each, ""))
@@ -185,10 +185,10 @@ def shortages():
 
 
 shortages()
-refuses("draw-plan.py", TINY, text=SHORT.replace("member b", "member a"), says="standard input: line 3: 'member a' is no line of a shortage")
-refuses("draw-plan.py", TINY, text=SHORT.replace("1-3", "1-8"), says="standard input: line 1: the machine has no CPU 8")
-refuses("draw-plan.py", TINY, text=SHORT.replace("demand 4", "demand x"), says="standard input: line 1: 'x' is no number")
-refuses("draw-plan.py", TINY, text=SHORT[:-4], says="standard input: line 4: the shortage has no end")
-refuses("draw-plan.py", TINY, "--before", text=SHORT, says="standard input: line 5: the answers have no plan before the last outcome")
-piped("draw-plan.py", MACHINE, ANSWERS)
-end("draw-plan.py")
+refuses("numarun-draw-plan", TINY, text=SHORT.replace("member b", "member a"), says="standard input: line 3: 'member a' is no line of a shortage")
+refuses("numarun-draw-plan", TINY, text=SHORT.replace("1-3", "1-8"), says="standard input: line 1: the machine has no CPU 8")
+refuses("numarun-draw-plan", TINY, text=SHORT.replace("demand 4", "demand x"), says="standard input: line 1: 'x' is no number")
+refuses("numarun-draw-plan", TINY, text=SHORT[:-4], says="standard input: line 4: the shortage has no end")
+refuses("numarun-draw-plan", TINY, "--before", text=SHORT, says="standard input: line 5: the answers have no plan before the last outcome")
+piped("numarun-draw-plan", MACHINE, ANSWERS)
+end("numarun-draw-plan")

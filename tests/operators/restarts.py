@@ -9,10 +9,8 @@ import sys
 import time
 
 from sites import IN_FOLDERS, QUOTA, Open, Site
-from trial import OPERATORS, check, end, told
-
-sys.path.insert(0, OPERATORS)
-from common import read_list
+from numarun_host.cpus import read_list
+from trial import check, end, told
 
 
 def of(lines, *words):
@@ -26,7 +24,7 @@ def in_a_look():
         site.come(name, count)
     site.run()
     for turn in range(8):
-        agent = Open(site, "--pause", "0")
+        agent = Open(site, "--pause", "0.01")
         agent.until("done")
         time.sleep(0.1 + turn / 50)
         check("told to end in a look", agent.end(), (0, []))
@@ -98,7 +96,7 @@ def killed_and_told():
     site = late(BEHIND_THE_WRITE)
     site.come("a", 2, group=False)
     status, lines = site.run()
-    check("told at once", (status, of(lines, "late", "adopt"), site.has("a", "b")), (0, [f"adopt a {site.at('work/bundles/told/a')} 2"], ["3-4", "2"]))
+    check("told at once", (status, of(lines, "late", "adopt"), site.has("a", "b")), (0, [f"adopt a {site.at('g/a')} 2"], ["3-4", "2"]))
 
 
 def killed_behind_a_late_write(killed=BEHIND_THE_WRITE, name="a"):
@@ -114,7 +112,7 @@ def killed_behind_a_late_write(killed=BEHIND_THE_WRITE, name="a"):
     site.come("a", 1, group=False)
     status, lines = site.run()
     check("once it is told", (status, site.has("a", "b")), (0, ["3", "2"]))
-    status, out, _ = told("agent.py", "--release", "--cgroup", site.at("root"), "--work", site.at("work"))
+    status, out, _ = told("numarun-agent", "--release", "--cgroup", site.at("root"), "--work", site.at("work"))
     check("given back", (status, site.has("a", "b")), (0, ["", ""]))
 
 
@@ -284,4 +282,4 @@ PARTS = (in_a_look, in_a_look_with_more, killed_and_told, killed_behind_a_late_w
 for part in PARTS:
     if not sys.argv[1:] or part.__name__ in sys.argv[1:]:
         part()
-end("agent.py and what the one before left")
+end("numarun-agent and what the one before left")

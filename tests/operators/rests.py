@@ -1,16 +1,16 @@
 """Tries the agent beside the groups of the system itself: those above a pinned container are let go, those beside it are held on the
 pool; and what was taken is given back."""
 
-import importlib
 import json
 import os
 import shutil
 import sys
 
 from sites import Open, Site
+from numarun_host import slices
+from numarun_host.cpus import print_list, read_list
 from trial import check, end, refuses, told
 
-common, slices = importlib.import_module("common"), importlib.import_module("slices")
 REST = ("--rest", "system.slice,user.slice,init.scope", "--rest", "machine.slice")
 SLICES = ("system.slice", "user.slice", "machine.slice")
 
@@ -24,7 +24,7 @@ def effective(site, group):
     if not group or not os.path.exists(site.at("root", group, "cpuset.cpus")):
         return set(range(8))
     above = effective(site, os.path.dirname(group))
-    return common.read_list(site.file(group), group) & above or above
+    return read_list(site.file(group), group) & above or above
 
 
 def slices_with_containers():
@@ -39,13 +39,13 @@ def slices_with_containers():
     site.come("web", **place("machine.slice/libpod-web.scope"))
     status, _ = site.run(*REST)
     groups = {"pod": "machine.slice/libpod-pod.scope", "dock": "system.slice/a-b.slice/docker-dock.scope", "free": "numarun/free"}
-    check("each has in effect what it requests", {name: common.print_list(effective(site, group)) for name, group in groups.items()},
+    check("each has in effect what it requests", {name: print_list(effective(site, group)) for name, group in groups.items()},
           {name: site.file(group) for name, group in groups.items()})
     check("as many as they ask for", (status, [len(effective(site, group)) for group in groups.values()]), (0, [2, 1, 1]))
     pool = site.file("user.slice")
     check("the others are on the pool", [site.file(f"system.slice/{name}") for name in ("sshd.service", "cron.service", "a-b.slice/x.service")], [pool] * 3)
     check("and what is above a container is not", [site.file(name) for name in ("system.slice", "system.slice/a-b.slice", "machine.slice")], [""] * 3)
-    check("one that asks for none", (site.file("machine.slice/libpod-web.scope"), len(common.read_list(pool, "")), "0" in pool), (pool, 4, True))
+    check("one that asks for none", (site.file("machine.slice/libpod-web.scope"), len(read_list(pool, "")), "0" in pool), (pool, 4, True))
 
 
 def comes_later():
@@ -60,7 +60,7 @@ def comes_later():
     site.come("dock", 2, **place("system.slice/docker-dock.scope"))
     lines = agent.until("done")
     check("let go", f"all CPUs for {site.at('root/system.slice')}: dock is below it" in lines, True)
-    check("what is beside it first", lines.index(f"adopt system.slice+sshd.service {site.at('work/bundles/rest')} 0-6")
+    check("what is beside it first", lines.index(f"adopt system.slice+sshd.service {site.at('root/system.slice/sshd.service')} 0-6")
           < lines.index(f"all CPUs for {site.at('root/system.slice')}: dock is below it"), True)
     check("its CPUs", [site.file(f"system.slice{name}") for name in ("", "/docker-dock.scope", "/sshd.service")], ["", "1-2", "0,3-6"])
     shutil.rmtree(site.at("root/system.slice/docker-dock.scope"))
@@ -140,28 +140,28 @@ def released():
     agent.until("done")
     check("taken", (site.file("system.slice"), site.has("a", "b"), site.file("numarun/a", "cpuset.mems")), ("0,3", ["1-2", "4-7"], "0"))
     words = ["--release", "--cgroup", site.at("root"), "--work", site.at("work")]
-    refuses("agent.py", *words, says="another agent or program has it")
+    refuses("numarun-agent", *words, says="another agent or program has it")
     agent.process.kill()
     agent.process.wait()
     site.run(*REST)
-    status, out, err = told("agent.py", *words)
+    status, out, err = told("numarun-agent", *words)
     check("given back", (status, out.count("given back"), err), (0, 3, ""))
     check("as it was", (site.file("system.slice"), site.has("a", "b"), site.file("system.slice", "cpuset.mems")), ("", ["", "4-7"], ""))
-    check("nothing is left to give back", told("agent.py", *words), (0, "", ""))
+    check("nothing is left to give back", told("numarun-agent", *words), (0, "", ""))
     site.make_group(None, "0,3", group="user.slice")
-    status, out, _ = told("agent.py", *words, "--rest", "user.slice")
+    status, out, _ = told("numarun-agent", *words, "--rest", "user.slice")
     check("one that is named", (status, site.file("user.slice")), (0, ""))
     check("and taken again", (site.run(*REST)[0], site.file("system.slice")), (0, "0,3"))
     entry = json.load(open(site.at("work/taken.json")))["groups"][site.at("root/system.slice")]
     check("what is kept", entry[1:], ["", "", True])
-    check("without a tree", told("agent.py", "--release")[0], 2)
+    check("without a tree", told("numarun-agent", "--release")[0], 2)
     for text in ("{", "[]", '{"groups": 5}', '{"all": 5, "groups": {"/": [1]}}', '{"groups": {"/x": 5}}'):
         with open(site.at("work/taken.json"), "w") as file:
             file.write(text)
-        check(f"a record that is none: {text}", (told("agent.py", *words), site.run(*REST)[0]), ((0, "", ""), 0))
+        check(f"a record that is none: {text}", (told("numarun-agent", *words), site.run(*REST)[0]), ((0, "", ""), 0))
 
 
 for part in (slices_with_containers, comes_later, held_before, cannot_be, squeezed, ids, released):
     if not sys.argv[1:] or part.__name__ in sys.argv[1:]:
         part()
-end("agent.py beside the system's groups")
+end("numarun-agent beside the system's groups")

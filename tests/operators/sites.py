@@ -5,13 +5,10 @@ import os
 import shutil
 import signal
 import subprocess
-import sys
 import tempfile
 import threading
 
-from trial import OPERATORS, TOP, check, command, told
-
-sys.path.insert(0, OPERATORS)
+from trial import TOP, check, command, told
 
 SCRATCH = os.environ.get("SCRATCH") or tempfile.mkdtemp()
 IN_FOLDERS = os.path.join(os.path.dirname(os.path.abspath(__file__)), "in_folders.sh")
@@ -95,10 +92,11 @@ class Site:
     def words(self, *more):
         words = [self.at("machine.json"), "--program", IN_FOLDERS, "--cgroup", self.at("root"), "--work", self.at("work"), "--pause", "0.1"]
         watching = ["--watch", self.at("g"), "--online", self.at("online")] if "--listen" not in more else []
-        return words + watching + [word for word in more if word != "--listen"]
+        all_pinned = ["--pin", "all", "--pool-least", "0"] if "--defaults" not in more else []
+        return words + watching + all_pinned + [word for word in more if word not in ("--listen", "--defaults")]
 
     def run(self, *more, text="", rounds="1"):
-        status, out, err = told("agent.py", *self.words(*more, "--rounds", rounds), text=text, env={**os.environ, "GROUPS_LOG": self.at("log")})
+        status, out, err = told("numarun-agent", *self.words(*more, "--rounds", rounds), text=text, env={**os.environ, "GROUPS_LOG": self.at("log")})
         check("nothing on standard error", err, "")
         return status, untimed(out)
 
@@ -113,7 +111,7 @@ class Open:
     """An agent that runs; what it says is read as it comes."""
 
     def __init__(self, site, *more, stdin=subprocess.DEVNULL):
-        words = command("agent.py", *site.words(*more))
+        words = command("numarun-agent", *site.words(*more))
         here = {**os.environ, "GROUPS_LOG": site.at("log")}
         self.process = subprocess.Popen(words, stdin=stdin, stdout=subprocess.PIPE, text=True, cwd=TOP, env=here)
         self.lines = []

@@ -6,13 +6,16 @@ import sys
 
 TOP = os.path.dirname(os.path.dirname(os.path.dirname(os.path.abspath(__file__))))
 EXAMPLES, OPERATORS = os.path.join(TOP, "examples"), os.path.join(TOP, "operators")
+sys.path.insert(0, OPERATORS)
 failed = []
 
 
 def command(script, *words):
+    """A script of operators/, or of examples/, and the first words of it."""
+    script, *first = script.split(" ")
     interpreter = ["bash"] if script.endswith(".sh") else [sys.executable, "-B"]
     folder = EXAMPLES if script == "quick-look.sh" else OPERATORS
-    return interpreter + [os.path.join(folder, script), *words]
+    return interpreter + [os.path.join(folder, script), *first, *words]
 
 
 def told(script, *words, text="", folder=TOP, **more):
@@ -27,10 +30,15 @@ def check(name, found, expected):
         print(f"{name}: found\n{found}\nexpected\n{expected}")
 
 
+def name_of(script):
+    """What a script calls itself on standard error."""
+    return script.split(" ")[0]
+
+
 def refuses(script, *words, says, status=1, first=None, **more):
     """It ends with this status and one line that has these words in it, and writes nothing."""
     found, out, err = told(script, *words, **more)
-    right = found == status and not out and err.count("\n") == 1 and err.startswith(first or f"{script}: ") and says in err
+    right = found == status and not out and err.count("\n") == 1 and err.startswith(first or f"{name_of(script)}: ") and says in err
     check(f"{script} {' '.join(words)}", "refused" if right else (found, out, err), "refused")
 
 
@@ -50,7 +58,7 @@ def bad_output(script, *words, text=""):
     """Where what it prints can't be written, or nobody reads it, or its output is closed: status 1, and one line at most."""
     with open("/dev/full", "wb") as full:
         ran = subprocess.run(command(script, *words), input=text.encode(), stdout=full, stderr=subprocess.PIPE, cwd=TOP, timeout=100)
-    lines = f"{script}: standard output: No space left on device\n"
+    lines = f"{name_of(script)}: standard output: No space left on device\n"
     check(f"{script}: a full output", (ran.returncode, ran.stderr.decode()), (1, lines))
     reader, writer = os.pipe()
     os.close(reader)
@@ -59,7 +67,7 @@ def bad_output(script, *words, text=""):
     check(f"{script}: nobody reads", (ran.returncode, ran.stderr), (1, b""))
     closed = ["bash", "-c", 'exec "$@" >&-', "-", *command(script, *words)]
     ran = subprocess.run(closed, input=text.encode(), stderr=subprocess.PIPE, cwd=TOP, timeout=100)
-    lines = f"{script}: standard input or standard output is closed\n"
+    lines = f"{name_of(script)}: standard input or standard output is closed\n"
     check(f"{script}: a closed output", (ran.returncode, ran.stderr.decode()), (1, lines))
 
 

@@ -16,10 +16,8 @@ import threading
 import time
 
 from sites import IN_FOLDERS
+from numarun_host.cpus import read_list
 from trial import OPERATORS, check, end
-
-sys.path.insert(0, OPERATORS)
-from common import read_list
 
 SEED, MOMENTS = (int(word) for word in (sys.argv[1:] + ["1", "24"][len(sys.argv) - 1:])[:2])
 RESERVED = {0}
@@ -176,9 +174,9 @@ class World:
 
 def agent(folder, *more):
     words = [f"{folder}/machine.json", "--program", IN_FOLDERS, "--cgroup", f"{folder}/root", "--work", f"{folder}/work"]
-    words += ["--watch", f"{folder}/g", "--online", f"{folder}/online", "--pause", "0.02", *more]
+    words += ["--watch", f"{folder}/g", "--online", f"{folder}/online", "--pause", "0.02", "--pin", "all", "--pool-least", "0", *more]
     out = open(f"{folder}/out", "a")
-    return subprocess.Popen([sys.executable, "-B", os.path.join(OPERATORS, "agent.py"), *words], stdout=out, stderr=out)
+    return subprocess.Popen([sys.executable, "-B", os.path.join(OPERATORS, "numarun-agent"), *words], stdout=out, stderr=out)
 
 
 def children(pid):
@@ -256,11 +254,11 @@ def main(folder):
     check("what each has in the end", left, {name: count for name, (_, count, _) in world.there.items() if count})
     check("no traceback", "Traceback" in "\n".join(said), False)
     check("enough of all", (world.looks > 20 * MOMENTS, min(world.did.values()) > 0), (True, True))
-    print(f"agent.py: killed {killed}: {world.looks} looks ({world.torn} torn), {len(world.unsafe)} unsafe; squeezed by {found}; {world.did}")
+    print(f"numarun-agent: killed {killed}: {world.looks} looks ({world.torn} torn), {len(world.unsafe)} unsafe; squeezed by {found}; {world.did}")
     if os.environ.get("KEEP"):
         shutil.copy(f"{folder}/out", os.environ["KEEP"])
 
 
 with tempfile.TemporaryDirectory() as scratch:
     main(scratch)
-end("agent.py in troubles")
+end("numarun-agent in troubles")

@@ -20,7 +20,7 @@ README_LINES = 200
 
 
 def pages() -> dict[pathlib.Path, str]:
-    found = [*TOP.glob("*.md"), *(TOP / "docs").rglob("*.md"), *(TOP / f / "README.md" for f in ("examples", "operators", "bench", "benches", "tests"))]
+    found = [*TOP.glob("*.md"), *(TOP / "docs").rglob("*.md"), *(TOP / "operators").glob("*.md"), *(TOP / f / "README.md" for f in ("examples", "bench", "benches", "tests"))]
     return {path: path.read_text(encoding="utf-8") for path in sorted(found)}
 
 

@@ -105,7 +105,7 @@ class World:
 
 
 def agent(*more):
-    words = ["/bin/python3", "-SEB", f"{tree.REPOSITORY}/operators/agent.py", tree.MACHINE, "--program", tree.PROGRAM, "--cgroup", ROOT,
+    words = ["/bin/python3", "-SEB", f"{tree.REPOSITORY}/operators/numarun-agent", tree.MACHINE, "--patience", "900", "--pin", "all", "--pool-least", "0", "--program", tree.PROGRAM, "--cgroup", ROOT,
              "--watch", FOLDER, "--work", WORK, "--pause", "0.05", *more]
     return subprocess.Popen(words, stdin=subprocess.DEVNULL, stdout=open(OUT, "a"), stderr=subprocess.STDOUT)
 

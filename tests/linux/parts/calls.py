@@ -116,7 +116,7 @@ def play(lines):
 
 def machine_is_told():
     """The machine file says what the kernel says of its nodes."""
-    machine = tree.common.Machine(tree.MACHINE)
+    machine = tree.machines.Machine(tree.MACHINE)
     for node, members in enumerate(machine.nodes):
         folder = f"/sys/devices/system/node/node{node}"
         assert tree.cpus(read(f"{folder}/cpulist")) == members, read(f"{folder}/cpulist")

@@ -16,7 +16,7 @@ OTHERS = ("cpu.max", "cpu.weight", "memory.max", "pids.max")
 
 def agent():
     """Two looks of the agent at crun's state; its lines."""
-    words = ["/bin/python3", "-SEB", f"{tree.REPOSITORY}/operators/agent.py", tree.MACHINE, "--program", tree.PROGRAM, "--cgroup", ROOT,
+    words = ["/bin/python3", "-SEB", f"{tree.REPOSITORY}/operators/numarun-agent", tree.MACHINE, "--patience", "900", "--pin", "all", "--pool-least", "0", "--program", tree.PROGRAM, "--cgroup", ROOT,
              "--watch", STATE, "--work", WORK, "--rounds", "2", "--pause", "0.1"]
     done = subprocess.run(words, stdin=subprocess.DEVNULL, stdout=subprocess.PIPE, stderr=subprocess.STDOUT, text=True)
     assert not done.returncode, done.stdout

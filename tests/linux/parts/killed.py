@@ -21,13 +21,13 @@ def killed(call):
     containers = tree.Containers()
     try:
         run = tree.Run(killed_behind=call)
-    except tree.common.Refused as why:
+    except tree.script.Refused as why:
         assert "status -9" in str(why), why
         return Scene(None, containers), True
     scene = Scene(run, containers)
     try:
         scene.play()
-    except tree.common.Refused as why:
+    except tree.script.Refused as why:
         assert "status -9" in str(why), why
         return scene, True
     run.close()

@@ -21,7 +21,7 @@ REST = ("--rest", "system.slice,user.slice,machine.slice")
 def prepare_hooks():
     for place in (HOOKS, TOLD):
         os.makedirs(place)
-    hook = {"path": "/bin/python3", "args": ["python3", "-SEB", f"{tree.REPOSITORY}/operators/hook.py", TOLD]}
+    hook = {"path": "/bin/python3", "args": ["python3", "-SEB", f"{tree.REPOSITORY}/operators/numarun-hook", TOLD]}
     waits = {**hook, "args": [*hook["args"], "--wait", "300", "--agent", f"{watched.WORK}/hooks"]}
     for stage, one in (("createRuntime", waits), ("poststop", hook)):
         with open(f"{HOOKS}/{stage}.json", "w") as file:

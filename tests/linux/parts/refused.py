@@ -42,7 +42,7 @@ def first(call):
     """The first two calls make the group of all containers: without it there is no run."""
     try:
         tree.Run(fail=call, number=NUMBERS[call % 3]).close()
-    except tree.common.Refused as why:
+    except tree.script.Refused as why:
         assert "E50 KernelFault" in str(why), why
         return tree.Run("--adopt")
     raise AssertionError(f"call {call} was refused, and the run began")

@@ -18,7 +18,7 @@ def refuses(refused, *more, root=ROOT, note=None, machine=MACHINE):
     counted += 1
     try:
         tree.Run(*more, root=root, machine=machine).close()
-    except tree.common.Refused as why:
+    except tree.script.Refused as why:
         assert refused in str(why) and (note or "") in str(why), (root, str(why))
         return
     raise AssertionError(f"{root}: {refused} is not said")

@@ -83,7 +83,7 @@ def partition(agent, pids):
 
 def before_its_first_instruction():
     """crun creates a container, and its hook waits for the agent, which would look again in an hour; and crun update is followed."""
-    words = ["python3", "-SEB", f"{tree.REPOSITORY}/operators/hook.py", "/tmp/told"]
+    words = ["python3", "-SEB", f"{tree.REPOSITORY}/operators/numarun-hook", "/tmp/told"]
     hooks = {"createRuntime": [{"path": "/bin/python3", "args": [*words, "--wait", "100", "--agent", f"{watched.WORK}/hooks"]}],
              "poststop": [{"path": "/bin/python3", "args": words}]}
     agent = watched.Agent("--pause", "3600", watch="/tmp/told")

@@ -1,6 +1,7 @@
-"""What a user reads in README.md and operators/README.md, typed as it stands: the transcripts, pictures, explanations and dry runs; numarun
-over the kernel's own tree; the installation, the machine file, the agent as its unit starts it, containers by crun and podman, the
-hook, the pool's script, what is given back, and the package. Each command of the two pages is typed here, or named as one that isn't."""
+"""What a user reads in README.md and on the pages of operators/, typed as it stands: the transcripts, pictures, explanations and dry runs;
+numarun over the kernel's own tree; the installation, the machine file, the agent as its unit starts it, containers by crun and podman, the
+hook, the pool's script, a service, what is given back, and the package. Each command of these pages is typed here, or named as one that
+isn't."""
 
 import json
 import os
@@ -13,14 +14,16 @@ import time
 sys.path[:0] = [os.path.join(os.path.dirname(os.path.abspath(__file__)), "..")]
 import of_podman
 import tree
+import watched
 from of_crun import bundle, crun, process
 from tree import ROOT, read, say
 
 TOP, OUT, OUT_OF_AGENT = tree.REPOSITORY, "/tmp/typed", "/tmp/agent"
-PAGES = {name: read(f"{TOP}/{name}") for name in ("README.md", "operators/README.md")}
+OPERATORS = sorted(f"operators/{name}" for name in os.listdir(f"{TOP}/operators") if name.endswith(".md"))
+PAGES = {name: read(f"{TOP}/{name}") for name in ("README.md", *OPERATORS)}
 HERE = {"PATH": "/usr/local/bin:/usr/bin:/bin:/app", "HOME": "/root", "TERM": "dumb"}
 # What is not typed: it wants the toolchain, or a service manager.
-ELSEWHERE = ("bash examples/quick-look.sh", "bash tests/all.sh", "bash build.sh", "systemctl enable")
+ELSEWHERE = ("bash examples/quick-look.sh", "bash tests/all.sh", "bash build.sh", "systemctl ", "journalctl ")
 done = set()
 
 
@@ -44,17 +47,22 @@ def lines_of(page):
 
 
 def command(beginning):
-    """The line of the pages that begins so, as it stands there."""
-    found = [line for page in PAGES for line, _ in lines_of(page) if line.startswith(beginning)]
-    assert len(found) == 1, (beginning, found)
-    return found[0]
+    """The line of the pages that begins so, as it stands there, on one of them or on several."""
+    found = {line for page in PAGES for line, _ in lines_of(page) if line.startswith(beginning)}
+    assert len(found) == 1 or beginning in found, (beginning, found)
+    return beginning if beginning in found else found.pop()
+
+
+def shown_on(*pages):
+    """What is shown behind a command is what it says, but for the time."""
+    for line, shown in [one for page in pages for one in lines_of(page) if one[1]]:
+        found, stamp = typed(line), r"\d{4}-\d\d-\d\dT[\d:.]+ "
+        assert re.sub(stamp, "", found) == re.sub(stamp, "", shown), (line, found)
 
 
 def transcripts():
-    """What is shown behind a command is what it says, but for the time."""
-    for line, shown in [one for page in PAGES for one in lines_of(page) if one[1]]:
-        found, stamp = typed(line), r"\d{4}-\d\d-\d\dT[\d:.]+ "
-        assert re.sub(stamp, "", found) == re.sub(stamp, "", shown), (line, found)
+    """README's, of which those of a script are answers."""
+    shown_on("README.md")
     for block in re.findall(r"^```\n(> .*?)^```", PAGES["README.md"], re.M | re.S):
         asked = "".join(line[2:] + "\n" for line in block.splitlines() if line.startswith("> "))
         answers = "".join(line + "\n" for line in block.splitlines() if not line.startswith("> "))
@@ -65,10 +73,12 @@ def transcripts():
 
 
 def pictures():
-    typed(command("crates/numarun/out/numarun run"))
-    typed(command("operators/draw-plan.py --before examples"))
-    assert read(f"{TOP}/plan.svg") == read(f"{TOP}/docs/two-socket.svg")
-    assert "database" in typed(command("operators/draw-plan.py --before --text"))
+    """What the pages of operators/ show, by what is installed: transcripts, and pictures."""
+    shown_on(*OPERATORS)
+    typed(command("numarun run"))
+    typed(command("numarun-draw-plan --before examples"))
+    assert read("/tmp/plan.svg") == read(f"{TOP}/docs/two-socket.svg")
+    assert "database" in typed(command("numarun-draw-plan --before --text"))
 
 
 def program():
@@ -83,7 +93,7 @@ def program():
 
 def on_a_real_kernel():
     """The machine file of this machine, and a run over its tree, with a process in one of its containers; it is undone by hand."""
-    typed(command("bash operators/describe-host.sh"))
+    typed(command("operators/numarun-describe host"))
     machine = json.load(open(f"{TOP}/host.json"))
     assert machine["nodes"] == ["0-1", "2-3", "4-5", "6-7"] and machine["distances"][1] == [20, 10, 30, 20] and machine["cores"], machine
     containers = tree.Containers("/tmp/b")
@@ -122,15 +132,16 @@ def on_a_real_kernel():
 
 def installed():
     """install.sh, and a machine file by the page's commands; hwloc makes the same one."""
-    typed("operators/install.sh /usr/local")
+    typed(command("operators/install.sh /usr/local"))
     typed(command("mkdir -p /etc/numarun"))
-    typed(command("numarun-describe-host --cores"))
+    typed(command("numarun-describe host --cores"))
     assert read("/etc/numarun/machine.json") == read(f"{TOP}/host.json")
+    assert "8 CPUs on 4 nodes" in typed(command("numarun-agent check-config /etc")), read(OUT)
     line = command("lstopo --disallowed")
     if os.path.exists("/usr/bin/lstopo"):
         for more, names in (("", []), ("--cores ", ["cores"])):
             typed(line.replace("--reserved", f"{more}--reserved"))
-            found, told = (json.load(open(path)) for path in (f"{TOP}/machine.json", f"{TOP}/host.json"))
+            found, told = (json.load(open(path)) for path in ("/tmp/machine.json", f"{TOP}/host.json"))
             assert all(found[name] == told[name] for name in ("nodes", "distances", "reserved", *names)), found
     done.add(line)
 
@@ -160,14 +171,15 @@ def has_own(pid, many):
 def by_readme():
     """README's lines for an agent, with a container of crun's, and what undoes them."""
     pid, _ = process_of_crun("first", {"quota": 200000, "period": 100000, "mems": "1"})
-    line = command("operators/agent.py host.json")
+    assert "hold first 2-3" in typed(command("numarun-agent /etc/numarun/machine.json --watch")) and tree.allowed(pid) == tree.CPUS, read(OUT)
+    line = command("operators/numarun-agent host.json")
     done.add(line)
     agent = begun(line)
     until(agent, lambda: has_own(pid, 2), "README's agent")
     assert tree.allowed(pid) == {2, 3}
-    assert typed(command("operators/dry-run.py host.json")).startswith("new would have 4"), read(OUT)
+    assert typed(command("operators/numarun-dry-run host.json")).startswith("new would have 4"), read(OUT)
     ended(agent)
-    typed(command("operators/agent.py --release"))
+    typed(command("operators/numarun-agent --release"))
     assert tree.allowed(pid) == tree.CPUS, read(OUT)
     crun("delete", "--force", "first")
 
@@ -177,22 +189,27 @@ def process_of_crun(name, section):
     return process(name)
 
 
+def of_the_unit(options):
+    """The line by which the unit starts the agent."""
+    unit = read("/usr/local/lib/systemd/system/numarun-agent.service")
+    return re.search(r"^ExecStart=(.*)", unit, re.M)[1].replace("$OPTIONS", options)
+
+
 def by_the_unit():
     """The agent as the unit starts it, beside containers of crun, of podman, and of podman with the hook; what it leaves to read."""
-    unit = read("/usr/local/lib/systemd/system/numarun-agent.service")
-    line = re.search(r"^ExecStart=(.*)", unit, re.M)[1]
     options = "--watch /run/numarun-containers --textfile /tmp/numarun.prom --certificates /var/log/numarun --pool /tmp/pool"
-    pool = re.search(r"^```sh\n(#!/bin/sh.*?)^```", PAGES["operators/README.md"], re.M | re.S)[1]
-    hook = re.search(r"^```json\n(.*?)^```", PAGES["operators/README.md"], re.M | re.S)[1]
+    pool = re.search(r"^```sh\n(#!/bin/sh.*?)^```", PAGES["operators/safety.md"], re.M | re.S)[1]
+    hook = re.search(r"^```json\n(.*?)^```", PAGES["operators/runtimes.md"], re.M | re.S)[1]
     for path, text in (("/tmp/pool", pool), ("/usr/share/containers/oci/hooks.d/numarun.json", hook)):
         os.makedirs(os.path.dirname(path), exist_ok=True)
         with open(path, "w") as file:
             file.write(text)
         os.chmod(path, 0o755)
     os.makedirs("/var/log")
-    agent = begun(line.replace("$OPTIONS", options))
+    agent = begun(of_the_unit(options))
     db, _ = process_of_crun("db", {"quota": 200000, "period": 100000, "mems": "1"})
     until(agent, lambda: has_own(db, 2), "crun's container")
+    assert typed(command("numarun-dry-run /etc/numarun/machine.json")).startswith("new would have 4"), read(OUT)
     eager, _ = of_podman.begin("eager", "--cpus", "2")
     assert has_own(eager, 2) and not tree.allowed(eager) & tree.allowed(db), (tree.allowed(eager), read(OUT_OF_AGENT)[-3000:])
     assert len(os.listdir("/run/numarun-containers")) == 1  # its hook has told of it, and has had an answer
@@ -201,14 +218,16 @@ def by_the_unit():
     until(agent, lambda: read("/proc/irq/default_smp_affinity").endswith(mask(tree.allowed(web))), "the pool's script")
     assert read("/sys/devices/virtual/workqueue/cpumask").endswith(mask(tree.allowed(web)))
     assert "numarun_containers_pinned 2" in read("/tmp/numarun.prom")
+    table = [row.split()[:2] for row in typed(command("numarun-agent status")).splitlines()]
+    assert ["db", "pinned"] in table and "pool" in table[0], table
     kept = sorted(os.listdir("/var/log/numarun"))[-1]
     assert typed(f"numarun check /var/log/numarun/{kept}").startswith("plan total 40"), read(OUT)
     assert "db: 2 CPUs" in typed(f"numarun-explain /etc/numarun/machine.json < /var/log/numarun/{kept}"), read(OUT)
     assert typed("numarun-dry-run /etc/numarun/machine.json --cpus 2 --running /run/crun").startswith("new would have"), read(OUT)
     assert "makes room by itself" in typed("numarun-dry-run /etc/numarun/machine.json --cpus 6 --running /run/crun", status=1), read(OUT)
-    assert "another agent or program has it" in typed(line.replace("$OPTIONS", ""), status=1)
+    assert "another agent or program has it" in typed(of_the_unit(""), status=1)
     ended(agent)
-    typed("operators/agent.py --release --cgroup /sys/fs/cgroup")
+    typed(command("numarun-agent release"))
     assert all(tree.allowed(pid) == tree.CPUS for pid in (db, eager, web)), read(OUT)
     crun("delete", "--force", "db")
     of_podman.podman("rm", "-f", "-t", "0", "eager", "web")
@@ -219,28 +238,41 @@ def mask(cpus):
     return f"{sum(1 << cpu for cpu in cpus):02x}"
 
 
+def a_service():
+    """A service that is described as a container: it has CPUs of its own, and the other one of its slice has not."""
+    service, other = (watched.group(f"system.slice/{name}.service") for name in ("postgresql", "ssh"))
+    for beginning in ("mkdir -p /etc/numarun/services", "echo '{\"cgroup-path\"", "echo '{\"ociVersion\""):
+        typed(command(beginning))
+    agent = begun(of_the_unit("--watch /etc/numarun/services"))
+    until(agent, lambda: has_own(service, 4) and not tree.allowed(other) & tree.allowed(service), "a service")
+    ended(agent)
+    typed(command("numarun-agent release"))
+    assert tree.allowed(service) == tree.allowed(other) == tree.CPUS, read(OUT)
+    tree.remove(f"{ROOT}/system.slice")
+
+
 def taken_away():
-    typed("operators/install.sh --uninstall /usr/local")
+    typed(command("operators/install.sh --uninstall /usr/local"))
     assert not [name for _, _, names in os.walk("/usr/local") for name in names], list(os.walk("/usr/local"))
 
 
 def package():
     """A package, in a database of packages that knows what it depends on."""
-    typed("operators/install.sh --deb .")
+    typed(command("operators/install.sh --deb"))
     for name in ("info", "updates", "triggers"):
         os.makedirs(f"/var/lib/dpkg/{name}")
     with open("/var/lib/dpkg/status", "w") as file:
         for name, version in (("python3", "3.11"), ("libc6", "2.36")):
             file.write(f"Package: {name}\nStatus: install ok installed\nMaintainer: nobody\nArchitecture: amd64\nVersion: {version}\nDescription: there\n\n")
-    typed("dpkg -i numarun_*.deb")
+    typed(command("dpkg -i"))
     assert "agent" in typed("numarun-agent --help")
-    typed("numarun-describe-host --cores > /etc/numarun/machine.json")
+    typed("numarun-describe host --cores > /etc/numarun/machine.json")
     typed("dpkg -r numarun")
     assert not shutil.which("numarun-agent", path=HERE["PATH"])
 
 
 def all_typed():
-    """No command of the two pages is left."""
+    """No command of the pages is left."""
     for page in PAGES:
         for line, _ in lines_of(page):
             assert line in done or line.startswith(ELSEWHERE), (page, line)
@@ -249,7 +281,7 @@ def all_typed():
 os.symlink("/proc/self/fd", "/dev/fd")  # as udev makes it
 of_podman.prepare()
 tree.clear()
-for step in (transcripts, pictures, program, on_a_real_kernel, installed, by_readme, by_the_unit, taken_away, package, all_typed):
+for step in (transcripts, program, on_a_real_kernel, installed, pictures, by_readme, by_the_unit, a_service, taken_away, package, all_typed):
     began = time.monotonic()
     step()
     say(f"walk: {step.__name__} in {time.monotonic() - began:.0f} s")

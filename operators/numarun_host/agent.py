@@ -1,0 +1,261 @@
+"""An agent that keeps one `numarun run MACHINE --cgroup` open, tells it what happens on a machine, and says what came of it.
+All writes for containers are numarun's; without --cgroup there are none, and the plans alone are told. Events come from standard
+input, a line each:
+  created ID BUNDLE [GROUP]  a container runs, of the bundle in this folder, in this group below the tree's root
+  ended ID                   it is gone
+  offline CPU, online CPU    a CPU went or came
+  rebalance                  work the plan out anew
+or, with --watch, from a folder of bundles, each by its id, or the state folder of a runtime as /run/crun; and from the
+kernel's list of online CPUs. Where a container's group is, the runtime's state says, or its config by `linux.cgroupsPath`,
+or else it is ROOT/numarun/ID.
+
+All events that are there are told before one plan is worked out. What runs already is adopted with the CPUs that its group
+requests. A container whose group is not there is told once it is; what was refused is told again when its config changes;
+a write that failed is made again, at growing pauses. A config or a limit that changes is told as it is. Who has no place runs on
+the pool until there is room. SIGTERM ends it between two commands, and what is left is taken up by the next one; --release gives
+back what was taken. Before all other words may stand `status`, which says what the running agent knows (see `status --help`), `release`
+in place of --release, or `check-config`, which says whether an agent with the other words would begin. `@FILE` stands for the words
+in a file.
+
+The status is 1 where something is left undone: a line that is no event, a refusal, a shortage, a failed write. Where it is told to
+end by a signal, a container that has no room is nothing of that."""
+
+from __future__ import annotations
+
+import argparse
+import dataclasses
+import os
+import select
+import shlex
+import signal
+import subprocess
+import sys
+import tempfile
+import time
+from typing import List, Optional, Sequence
+
+from .cgroups import Groups
+from .configs import LEAST, NEAR, PIN, STAY, Pin
+from .cpus import Cpus, print_list
+from .decide import answer_to_hook, at_the_end, decide, say_pool_end
+from .doing import POOL_SECONDS, Ending, Hands, PoolCommand
+from .hooks import STATUS, Hooks
+from .ledger import Ledger, Settings, is_undone
+from .links import Links
+from .log import logger
+from .notify import ENDS, READY, WORKS, notify, patience_of_watchdog
+from .pool import POOL_LEAST, is_pool_least, pool_least_of
+from .looking import Eyes
+from .machine import Machine
+from .program import PATIENCE
+from .records import KEPT, Certificates
+from .release import release
+from .script import check_program, find_program
+from .sources import Folders, Input, Source
+from .status import main as say_status
+from .status import status_of
+from .taken import Record, read_record, whole_machine
+
+EXAMPLE = f"""what a container says of itself, by an annotation, or a variable of its process's environment:
+  {PIN}=true    NUMARUN_PIN=true    with --pin annotated: it gets CPUs of its own
+  {LEAST}=N     NUMARUN_LEAST=N     where there are no more it takes as few as these
+  {STAY}=true   NUMARUN_STAY=true   no plan moves it
+  {NEAR}=NAME   NUMARUN_NEAR=NAME   its home is the node of this network interface, block device or PCI address
+
+examples, from the top of the repository:
+  echo "created database examples/bundles/database" | operators/numarun-agent examples/machines/two-socket.json
+  operators/numarun-agent host.json --cgroup /sys/fs/cgroup --watch /run/crun
+  operators/numarun-agent --release --cgroup /sys/fs/cgroup"""
+LEAST_PAUSE = 0.01
+SUBCOMMANDS = ("status", "release", "check-config")
+
+
+class Agent:
+    """What looks, what decides by it, and what does it, in turn."""
+
+    def __init__(self, eyes: Eyes, hands: Hands, ledger: Ledger, hooks: Optional[Hooks], ending: Ending) -> None:
+        self.eyes, self.hands, self.ledger, self.hooks, self.ending = eyes, hands, ledger, hooks, ending
+
+    def turn(self) -> None:
+        """A look, and what comes of it."""
+        if self.hooks:
+            self.hooks.take()
+        look = self.eyes.look(self.ledger, time.monotonic())
+        command, fault = self.hands.pool.take()
+        look = dataclasses.replace(look, pool_command=command, pool_fault=fault)
+        self.ledger = self.hands.carry_out(decide(self.ledger, look))
+        if self.hooks:
+            self.hooks.answer(lambda name: status_of(self.ledger) if name == STATUS else answer_to_hook(self.ledger, name))
+
+    def work(self, pause: float, rounds: int) -> None:
+        """Looks again and again, at the latest after a pause, until the input ends, or it is told to end."""
+        reader, writer = os.pipe()
+        os.set_blocking(writer, False)
+        signal.set_wakeup_fd(writer)
+        for number in (signal.SIGTERM, signal.SIGINT):
+            signal.signal(number, self.ending.tell)
+        source, turns, pause = self.eyes.source, 0, min(pause, patience_of_watchdog() / 2)
+        while not self.ending.is_told:
+            turns += 1
+            if turns > 1 or isinstance(source, Input):
+                self.wait(reader, pause)
+            if self.ending.is_told:
+                break
+            self.turn()
+            notify(WORKS if turns > 1 else READY)
+            if turns == rounds or source.ended:
+                break
+        self.finish()
+
+    def wait(self, reader: int, pause: float) -> None:
+        """Waits until there is something to look at, or a pause is over."""
+        waiter = select.poll()
+        for file in [reader, *(self.hooks.files() if self.hooks else []), *([0] if isinstance(self.eyes.source, Input) else [])]:
+            waiter.register(file, select.POLLIN)
+        waiter.poll(pause * 1000)
+
+    def finish(self) -> None:
+        """Waits for the pool's command, and says what was not said yet."""
+        notify(ENDS)
+        self.hands.pool.finish(5 if self.ending.is_told else POOL_SECONDS)
+        command, fault = self.hands.pool.take()
+        if command:
+            self.hands.carry_out(say_pool_end(self.ledger, command, fault))
+        for line in at_the_end(self.ledger):
+            self.hands.do(line)
+
+
+class Parser(argparse.ArgumentParser):
+    """Of a file that `@FILE` names each line has some words, as a shell splits them, and a comment behind #."""
+
+    def convert_arg_line_to_args(self, arg_line: str) -> List[str]:
+        return shlex.split(arg_line, comments=True)
+
+
+def words_of(told: Sequence[str]) -> argparse.Namespace:
+    parser = Parser(description=__doc__, epilog=EXAMPLE, formatter_class=argparse.RawDescriptionHelpFormatter, fromfile_prefix_chars="@")
+    parser.add_argument("machine", metavar="MACHINE", nargs="?", help="the machine file")
+    parser.add_argument("--version", action="store_true", help="say which numarun it works with, and end")
+    add_program(parser)
+    add_containers(parser)
+    add_rest(parser)
+    add_records(parser)
+    words = parser.parse_args(told)
+    words.groups = [group.strip("/") for groups in words.rest for group in groups.split(",") if group.strip("/")]
+    for option, said in (("--rest", words.groups), ("--release", words.release)):
+        if said and not words.cgroup:
+            parser.error(f"{option} is of a tree: --cgroup names it")
+    if not words.machine and not words.release and not words.version:
+        parser.error("no MACHINE")
+    if not LEAST_PAUSE <= words.pause <= 86400 or words.rounds < 0 or words.keep < 1:
+        parser.error(f"--pause is {LEAST_PAUSE} to 86400, --rounds is 0 or more, and --keep 1 or more")
+    if not is_pool_least(words.pool_least):
+        parser.error("--pool-least is a number of CPUs, or of percents")
+    if words.watch and not words.online:
+        words.online = "/sys/devices/system/cpu/online"
+    return words
+
+
+def add_program(parser: argparse.ArgumentParser) -> None:
+    group = parser.add_argument_group("what it works with")
+    group.add_argument("--cgroup", metavar="ROOT", help="write in this cgroup v2 tree, as /sys/fs/cgroup")
+    group.add_argument("--program", default=find_program(), metavar="PATH", help="numarun, if it is not the one that is built or installed here")
+    group.add_argument("--slit", metavar="FILE", help="the distance table, where MACHINE has no distances")
+    group.add_argument("--work", default="/run/numarun", metavar="FOLDER", help="with --cgroup: the agent's own files, which it makes anew, "
+                       "and the socket for numarun-hook --wait (%(default)s)")
+    group.add_argument("--pause", type=float, default=1.0, metavar="SECONDS", help="between two looks, if nothing is told (%(default)s)")
+    group.add_argument("--rounds", type=int, default=0, metavar="N", help="end after N looks")
+    group.add_argument("--patience", type=float, default=PATIENCE, metavar="SECONDS", help="that numarun has for an answer; then the agent ends "
+                       "(%(default)s)")
+    group.add_argument("--release", action="store_true", help="give back to each group what it requested before the agent came, and end")
+
+
+def add_containers(parser: argparse.ArgumentParser) -> None:
+    group = parser.add_argument_group("containers")
+    group.add_argument("--watch", metavar="FOLDER", action="append", help="the containers are those of this folder, and of others that are named so")
+    group.add_argument("--group", default="numarun", metavar="NAME", help="the group that has the groups of which nothing else is said (%(default)s)")
+    group.add_argument("--online", metavar="FILE", help="the kernel's list of online CPUs; with --watch it is looked at anyway")
+    group.add_argument("--pin", choices=[rule.value for rule in Pin], default=Pin.WHOLE.value, help="who gets CPUs of its own: all that ask for "
+                       f"some, those whose quota is of whole CPUs, or those that say {PIN}=true (%(default)s)")
+    group.add_argument("--home", choices=("free", "none"), default="free", help="which nodes of memory one gets that names none: those where "
+                       "there is room for it, or none (%(default)s)")
+    group.add_argument("--nodes", default="/sys/devices/system/node", metavar="FOLDER", help="where the kernel tells the free memory of each node "
+                       "(%(default)s)")
+
+
+def add_rest(parser: argparse.ArgumentParser) -> None:
+    group = parser.add_argument_group("the rest of the machine")
+    group.add_argument("--rest", action="append", default=[], metavar="GROUPS", help="groups of the system itself, with commas between them, as "
+                       "system.slice,user.slice,init.scope: they are held on the pool, those that are there")
+    group.add_argument("--pool-least", default=POOL_LEAST, metavar="N", help="newcomers wait rather than bring the pool below so many CPUs, or "
+                       "this part of them; of a part two cores are kept at least (%(default)s)")
+    group.add_argument("--pool", metavar="COMMAND", help="run this with the pool's list behind it whenever that has changed")
+
+
+def add_records(parser: argparse.ArgumentParser) -> None:
+    group = parser.add_argument_group("what it leaves to read")
+    group.add_argument("--textfile", metavar="FILE", help="leave the figures here for node_exporter, as a file of its folder that ends in .prom")
+    group.add_argument("--certificates", metavar="FOLDER", help="keep the certificate of each plan and shortage here, by its date")
+    group.add_argument("--keep", type=int, default=KEPT, metavar="N", help="of the certificates the last N (%(default)s)")
+
+
+def settings_of(words: argparse.Namespace, machine: Machine, root: Optional[str]) -> Settings:
+    return Settings(machine, words.machine, root, Pin(words.pin), words.home == "free", tuple(words.groups),
+                    pool_least_of(words.pool_least, machine), words.pause, words.certificates or "", words.textfile or "", bool(words.pool))
+
+
+def memory_of(machine: Machine, groups: Optional[Groups]) -> Cpus:
+    """The nodes of the machine file that the tree's root has in effect."""
+    nodes = frozenset(range(len(machine.nodes)))
+    effective = groups.effective_nodes() if groups else None
+    return nodes if effective is None else nodes & effective or nodes
+
+
+def made(words: argparse.Namespace, machine: Machine, work: str, ending: Ending) -> Agent:
+    """An agent over this machine, with what one before has left."""
+    links = Links(words.cgroup, work) if words.cgroup else None
+    groups = Groups(links.root) if links else None
+    hooks = Hooks(os.path.join(work, "hooks")) if links else None
+    settings = settings_of(words, machine, links.root if links else None)
+    source: Source = Folders(words.watch) if words.watch else Input()
+    eyes = Eyes(settings, source, words.online, words.nodes, groups, words.group)
+    record, memory = read_record(work) if links else Record(""), memory_of(machine, groups)
+    record.whole = whole_machine(machine.present, memory)
+    ledger = Ledger(settings, memory, taken=record.groups, renewed=record.renewed, before=links.before if links else {})
+    hands = Hands(words.program, words.machine, words.slit, work, links, record, Certificates(words.certificates or "", words.keep),
+                  words.textfile or "", PoolCommand(words.pool or ""), logger(), ending, words.patience)
+    return Agent(eyes, hands, ledger, hooks, ending)
+
+
+def check_config(words: argparse.Namespace) -> int:
+    """Whether an agent with these words would begin: what is wrong with the machine file is refused as it would be then."""
+    machine = Machine(words.machine)
+    check_program(words.program)
+    print(f"{words.machine}: {len(machine.present)} CPUs on {len(machine.nodes)} nodes, reserved {print_list(machine.reserved)}, "
+          f"and {pool_least_of(words.pool_least, machine)} are left to the pool")
+    return 0
+
+
+def main() -> int:
+    subcommand, told = (sys.argv[1], sys.argv[2:]) if sys.argv[1:2] and sys.argv[1] in SUBCOMMANDS else ("", sys.argv[1:])
+    if subcommand == "status":
+        return say_status(told)
+    words = words_of([*told, "--release"] if subcommand == "release" else told)
+    if words.version:
+        check_program(words.program)
+        return subprocess.run([words.program, "--version"]).returncode
+    if subcommand == "check-config":
+        return check_config(words)
+    if words.release:
+        slices: List[str] = words.groups
+        return release(words.cgroup, words.work, slices)
+    machine = Machine(words.machine)
+    check_program(words.program)
+    ending = Ending()
+    with tempfile.TemporaryDirectory(prefix="numarun-") as folder:
+        agent = made(words, machine, words.work if words.cgroup else folder, ending)
+        try:
+            agent.work(words.pause, words.rounds)
+        finally:
+            agent.hands.close()
+    return 1 if is_undone(agent.ledger, ending.is_told) else 0

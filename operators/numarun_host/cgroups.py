@@ -1,0 +1,172 @@
+"""The groups of a cgroup v2 tree as they are read, and where runtimes say that the group of a container is."""
+
+from __future__ import annotations
+
+import os
+import re
+from typing import Dict, FrozenSet, Optional, Set, Tuple, Union
+
+from .configs import Config, Limit, at, parse_text
+from .cpus import NO_CPUS, Cpus, read_list
+from .script import Refused, read_text
+from .seen import Group, NoGroup
+
+CONFIG_BYTES = 1 << 20
+FILE_BYTES = 1 << 16
+READ = ("cpuset.cpus", "cpuset.mems", "cpuset.cpus.effective", "cpu.max", "cgroup.events")
+Texts = Tuple[Optional[str], ...]
+
+
+def read_file(path: str) -> Optional[str]:
+    """A file of a group, or nothing."""
+    try:
+        file = os.open(path, os.O_RDONLY | os.O_CLOEXEC)
+    except (OSError, ValueError):
+        return None
+    try:
+        return os.read(file, FILE_BYTES).decode().strip()
+    except (OSError, ValueError):
+        return None
+    finally:
+        os.close(file)
+
+
+def set_in(text: Optional[str]) -> Optional[Cpus]:
+    """The set of a file's list; none where it was never written, and nothing where it can't be read."""
+    try:
+        return None if text is None else read_list(text, "")
+    except Refused:
+        return None
+
+
+def limit_in(text: Optional[str]) -> Optional[Limit]:
+    """The quota and the period of `cpu.max`; nothing where it has none."""
+    found = re.fullmatch(r"([1-9][0-9]{0,17}) ([1-9][0-9]{0,17})", text or "")
+    return (int(found[1]), int(found[2])) if found else None
+
+
+def populated_in(text: Optional[str]) -> Optional[bool]:
+    found = re.search(r"^populated ([01])$", text or "", re.M)
+    return found[1] == "1" if found else None
+
+
+class Groups:
+    """The groups of a tree. What has not changed since the last look is the same object."""
+
+    def __init__(self, root: str) -> None:
+        self.root = root
+        self.last: Dict[str, Tuple[int, Texts, Group]] = {}
+        self.looked_at: Set[str] = set()
+
+    def look_at(self, path: str) -> Union[Group, NoGroup]:
+        self.looked_at.add(path)
+        try:
+            inode = os.stat(path).st_ino
+        except (OSError, ValueError):
+            return NoGroup(f"{path}: no such group")
+        texts: Texts = tuple(read_file(f"{path}/{file}") for file in READ)
+        if texts[0] is None and not os.path.lexists(f"{path}/{READ[0]}"):
+            return NoGroup(f"{path}: no cpuset.cpus in it", folder=True)
+        before = self.last.get(path)
+        if before and before[:2] == (inode, texts):
+            return before[2]
+        cpus, nodes, effective = (set_in(text) for text in texts[:3])
+        group = Group(path, inode, cpus or NO_CPUS, nodes, effective, limit_in(texts[3]), populated_in(texts[4]), (texts[0], texts[1]))
+        self.last[path] = inode, texts, group
+        return group
+
+    def end_look(self) -> None:
+        """Forgets those that were not looked at."""
+        self.last = {path: found for path, found in self.last.items() if path in self.looked_at}
+        self.looked_at = set()
+
+    def effective_nodes(self) -> Optional[Cpus]:
+        return set_in(read_file(f"{self.root}/cpuset.mems.effective"))
+
+    def effective_cpus(self) -> Optional[Cpus]:
+        return set_in(read_file(f"{self.root}/cpuset.cpus.effective"))
+
+    def children(self, path: str) -> Tuple[str, ...]:
+        try:
+            return tuple(sorted(entry.name for entry in os.scandir(path) if entry.is_dir(follow_symlinks=False)))
+        except OSError:
+            return ()
+
+    def ways_to(self, slices: Tuple[str, ...], paths: FrozenSet[str]) -> Set[str]:
+        """The groups of the system, among these and below them, that are above one of these paths."""
+        tops = tuple(f"{self.root}/{name}" for name in slices)
+        found: Set[str] = set()
+        for path in paths:
+            above = os.path.dirname(path)
+            while above.startswith(tops) and above not in found:
+                if any(above == top or above.startswith(f"{top}/") for top in tops):
+                    found.add(above)
+                above = os.path.dirname(above)
+        return found
+
+
+def scope_of(text: str) -> str:
+    """The path of SLICE:PREFIX:NAME, as systemd has it: a-b.slice is in a.slice."""
+    first, prefix, name = (text.split(":") + ["", ""])[:3]
+    parts = (first or "system.slice").rsplit(".slice", 1)[0].split("-")
+    slices = ["-".join(parts[:k + 1]) + ".slice" for k in range(len(parts))] if any(parts) else []
+    return "/".join(slices + [name if name.endswith(".slice") else f"{prefix}-{name}.scope"])
+
+
+def read_json(path: str) -> Config:
+    """A JSON object in a file that somebody else writes, so that it may be there in part."""
+    return parse_text(read_text(path, CONFIG_BYTES), path)
+
+
+def state_of_runtime(folder: str) -> Optional[Config]:
+    """What a runtime keeps of a container: crun's `status`, or runc's `state.json`."""
+    for file in ("status", "state.json"):
+        path = os.path.join(folder, file)
+        if os.path.isfile(path):
+            return read_json(path)
+    return None
+
+
+def stated_group(folder: str) -> Optional[str]:
+    """The group that a runtime's state names."""
+    state = state_of_runtime(folder)
+    for names in (("cgroup-path",), ("cgroup_paths", "")):
+        found = at(state, *names)
+        if isinstance(found, str) and found:
+            return found
+    return None
+
+
+def group_path(root: str, parent: str, name: str, config: Config, folder: Optional[str], told: Optional[str]) -> str:
+    """The path of a container's group: as the event says, or else the runtime's state, its config, or its id below the group of those of
+    which nothing else is said."""
+    found: object = told
+    if found is None:
+        path = at(config, "linux", "cgroupsPath")
+        found = (stated_group(folder) if folder is not None else None) or (scope_of(path) if isinstance(path, str) and path.count(":") == 2 else path)
+    text = found if isinstance(found, str) and found else f"{parent}/{name}"
+    if text.startswith(f"{root}/"):
+        text = text[len(root):]
+    return os.path.normpath(root + os.path.normpath(f"/{text}"))
+
+
+def has_ended(folder: str) -> bool:
+    """Whether the process that a runtime's state names has ended, so that the runtime calls the container stopped."""
+    try:
+        state = state_of_runtime(folder)
+    except Refused:
+        return False
+    for pid_name, start_name in (("pid", "process-start-time"), ("init_process_pid", "init_process_start")):
+        pid, start = at(state, pid_name), at(state, start_name)
+        if isinstance(pid, int) and not isinstance(pid, bool) and pid > 0:
+            return not is_process(pid, start)
+    return False
+
+
+def is_process(pid: int, start: object) -> bool:
+    """Whether there is a process of this number that began then, if that is known."""
+    text = read_file(f"/proc/{pid}/stat")
+    if text is None:
+        return False
+    fields = text.rpartition(")")[2].split()
+    return not isinstance(start, int) or not start or len(fields) < 20 or fields[19] == str(start)

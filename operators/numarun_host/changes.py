@@ -1,0 +1,202 @@
+"""Those that end, those whose configs or limits are others, and what others wrote into the groups."""
+
+from __future__ import annotations
+
+import dataclasses
+from typing import List, Optional
+
+from .commands import Ask, Drop, Link, SaveTaken, Say, Steps, Taken, Tell, Unlink, Verb, Write
+from .configs import Demand, shared
+from .cpus import NO_CPUS, Cpus, print_list
+from .ledger import Container, Kind, Ledger, Sighting, State, Topic, report
+from .newcomers import refuse
+from .placing import demand_of
+from .script import Refused
+from .sightings import are_known, is_same, lives, written
+from .slices import is_below
+from .telling import Turn, ask, tell_update
+
+
+def end_those_gone(turn: Turn) -> Steps[List[Container]]:
+    """Tells the end of those that are not there any more, or are others by now."""
+    ledger, there = turn.ledger, turn.there
+    gone = [container for name, container in ledger.containers.items() if name not in there or not is_same(ledger, container, there[name])]
+    for container in gone:
+        yield from end(turn, container)
+    return gone
+
+
+def end(turn: Turn, container: Container) -> Steps[None]:
+    """A container that is gone, or another one now: its link goes first, so that no command reaches its group."""
+    ledger, name, seen = turn.ledger, container.name, container.seen
+    yield from untell(ledger, name)
+    del ledger.containers[name]
+    ledger.forget(name)
+    if not seen.told.is_system and not turn.came_anew(seen.group) and seen.group.path in ledger.taken:
+        del ledger.taken[seen.group.path]
+        turn.unsaved = True
+    yield Say(f"ended {ledger.title(name)}")
+    yield Drop(name)
+
+
+def untell(ledger: Ledger, name: str) -> Steps[None]:
+    yield Unlink(name)
+    for line in (f"kill {name} KILL", f"delete {name}"):
+        reply = yield from ask(ledger, Ask(line), quiet=True)
+        if reply.first != "ok":
+            raise Refused(f"numarun: {reply.first!r} to {line!r}")
+
+
+# Other configs, and other limits.
+
+
+def follow_all(turn: Turn) -> Steps[bool]:
+    """Takes up what those that run ask for by now; whether a plan is to be worked out."""
+    changed = False
+    for name in list(turn.ledger.containers):
+        changed = (yield from follow(turn, name, turn.there[name])) or changed
+    return changed
+
+
+def follow(turn: Turn, name: str, sighting: Sighting) -> Steps[bool]:
+    ledger = turn.ledger
+    before = ledger.containers[name].seen
+    if before.asks == sighting.asks or sighting.told.is_system:
+        if before.group is not sighting.group:
+            ledger.change(name, seen=sighting)
+        return False
+    if not ledger.is_over("update", "", turn.now):
+        return False
+    container = ledger.change(name, seen=sighting)
+    demand = demand_of(turn, sighting, container.home)
+    if demand.config == (container.wanted or container.demand).config:
+        return False
+    if demand.count is None or container.given.count is None:
+        return (yield from follow_shared(turn, container, demand))
+    ledger.change(name, wanted=demand)
+    return True
+
+
+def follow_shared(turn: Turn, container: Container, demand: Demand) -> Steps[bool]:
+    """The same of one that is on the pool, or is to be; it waits there where it is to be pinned."""
+    ledger, name, waits = turn.ledger, container.name, demand.count is not None
+    if not (yield from tell_update(turn, name, shared(demand.config) if waits else demand, quiet=waits)):
+        if ledger.unmade:  # it is told again
+            ledger.change(name, seen=dataclasses.replace(container.seen, stamp=None))
+        return False
+    stopped = container.seen.stopped and container.state.is_pinned
+    if stopped:
+        yield Say(f"stopped {ledger.title(name)}: it has no process, and its runtime keeps it: its CPUs are given back")
+    state = State.WAITING if waits else State.STOPPED if stopped else State.SHARED
+    ledger.change(name, demand=demand, state=state, wanted=None, followed=container.seen.nodes)
+    ledger.settle(Topic.CONTAINER, name, Kind.REFUSED, Kind.WAITS, Kind.FEWER, Kind.KEEPS)
+    return True
+
+
+# What others wrote.
+
+
+def mend_all(turn: Turn) -> Steps[None]:
+    """Looks whether each group requests what it was given, and has that in effect."""
+    ledger = turn.ledger
+    for name, container in list(ledger.containers.items()) if ledger.has_tree else []:
+        sighting = turn.there[name]
+        if container.cpus is None:
+            continue
+        if sighting.group.cpus != container.cpus or nodes_drifted(ledger, container, sighting):
+            yield from mend(turn, container, sighting)
+        else:
+            ledger.settle(Topic.DRIFT, name)
+        if name in ledger.containers:
+            yield from compare_effective(turn, container, sighting)
+
+
+def nodes_drifted(ledger: Ledger, container: Container, sighting: Sighting) -> bool:
+    """Whether somebody wrote nodes that are no limit which the container follows."""
+    nodes = sighting.group.nodes
+    if nodes is None or nodes == written(ledger, container.nodes):
+        return False
+    return not nodes or sighting.told.is_system or container.seen.nodes == nodes or not are_known(ledger, nodes)
+
+
+def mend(turn: Turn, container: Container, sighting: Sighting) -> Steps[None]:
+    """Writes again what a group was given, by telling of it anew. At a container's own end, or restart, there is nothing to mend."""
+    ledger, name, group = turn.ledger, container.name, sighting.group
+    if group.inode != container.seen.group.inode or (not group.cpus and not lives(turn, container)):
+        return
+    if not ledger.is_over("container", name, turn.now):
+        return
+    cpus = container.cpus or NO_CPUS
+    if group.cpus != cpus:
+        what = f"{print_list(group.cpus)} in place of {print_list(cpus)}"
+    else:
+        what = f"nodes {print_list(group.nodes or NO_CPUS)} in place of {print_list(written(ledger, container.nodes))}"
+    yield from report(ledger, Topic.DRIFT, name, Kind.DRIFT, f"{ledger.title(name)} has {what}: that is written again")
+    yield from untell(ledger, name)
+    yield Link(name, group.path)
+    reply = yield from ask(ledger, Tell(Verb.ADOPT, name, container.given.config, cpus))
+    if reply.fault is None:
+        ledger.change(name, seen=dataclasses.replace(sighting, nodes=container.followed))
+        turn.there[name] = ledger.containers[name].seen
+        ledger.settle(Topic.DRIFT, name)
+        return
+    del ledger.containers[name]
+    yield from refuse(turn, name, dataclasses.replace(sighting, stamp=None), reply)
+    yield from report(ledger, Topic.DRIFT, name, Kind.DRIFT, f"{ledger.title(name)}: that can't be written again")
+
+
+def compare_effective(turn: Turn, container: Container, sighting: Sighting) -> Steps[None]:
+    """Says where a pinned container has not in effect what it was given, as in a group that has fewer CPUs."""
+    ledger, name, has = turn.ledger, container.name, sighting.group.effective
+    given = (container.cpus or NO_CPUS) & ledger.running
+    if container.state.has_had_a_plan and given and has is not None and has != given:
+        text = f"{ledger.title(name)}: {print_list(has)} in effect in place of {print_list(given)}"
+        yield from report(ledger, Topic.SQUEEZED, name, Kind.SQUEEZED, text)
+    else:
+        ledger.settle(Topic.SQUEEZED, name)
+
+
+def undo_late_writes(turn: Turn, ended: List[Container]) -> Steps[None]:
+    """A group that came in the place of an ended one may have been written for that one, as the end of a hand-over. Where it can't be
+    told of yet, it is brought to the reserved CPUs, for the others are given to whoever asks."""
+    ledger = turn.ledger
+    paths = {container.seen.group.path for container in ledger.containers.values()}
+    for container in ended:
+        path, group = container.seen.group.path, turn.look.group(container.seen.group.path)
+        if container.cpus and path not in paths and group and turn.came_anew(container.seen.group) and group.cpus == container.cpus:
+            yield from to_reserved(turn, container.name, path, container.cpus)
+    yield from undo_writes_before(turn)
+    if turn.unsaved:
+        yield SaveTaken(ledger.all_taken)
+        turn.unsaved = False
+
+
+def undo_writes_before(turn: Turn) -> Steps[None]:
+    """The same of groups that came while no agent looked: the one before may have been killed behind such a write."""
+    ledger = turn.ledger
+    paths = {container.seen.group.path for container in ledger.containers.values()}
+    names = {path: name for name, (path, _) in ledger.before.items()}
+    for path, taken in ledger.renewed.items():
+        group = turn.look.group(path)
+        cpus = group.cpus if group else NO_CPUS
+        if taken.system and path in turn.on_the_way:
+            take_new(turn, path, True)
+        elif not taken.system and path not in paths and cpus - ledger.reserved and is_below(path, ledger.settings.root):
+            yield from to_reserved(turn, names.get(path, path), path, cpus)
+    turn.unsaved = turn.unsaved or bool(ledger.renewed)
+    ledger.renewed = {}
+
+
+def to_reserved(turn: Turn, name: str, path: str, cpus: Cpus) -> Steps[None]:
+    why: Optional[str] = (yield Write(path, "cpuset.cpus", print_list(turn.ledger.reserved))).why
+    take_new(turn, path, False)
+    late = f"late {turn.ledger.title(name)}: {print_list(cpus)} of the one before: on the reserved CPUs until it is told"
+    yield Say(f"failed {why}" if why else late)
+
+
+def take_new(turn: Turn, path: str, system: bool) -> None:
+    """Keeps that a group which nobody looked at before requested nothing."""
+    group = turn.look.group(path)
+    if group:
+        turn.ledger.taken[path] = Taken(group.inode, "", "", system)
+        turn.unsaved = True

@@ -1,0 +1,156 @@
+"""What is to be done, and what comes of it. Who decides yields commands, and is sent the answers."""
+
+from __future__ import annotations
+
+from dataclasses import dataclass
+from enum import Enum
+from typing import Generator, Mapping, Optional, Tuple, TypeVar, Union
+
+from .configs import Config
+from .cpus import NO_CPUS, Cpus
+
+
+class Verb(Enum):
+    """A command of numarun's that names a bundle."""
+
+    CREATE = "create"
+    ADOPT = "adopt"
+    UPDATE = "update"
+
+
+class Level(Enum):
+    """How much a line of the log matters, as journald has it."""
+
+    WARNING = 4
+    NOTICE = 5
+    INFO = 6
+
+
+@dataclass(frozen=True)
+class Start:
+    """Ends the run of numarun that there is, and begins one with these CPUs reserved and offline, in which these nodes have memory."""
+
+    reserved: Cpus
+    offline: Cpus
+    shown: Cpus
+    memory: Cpus
+
+
+@dataclass(frozen=True)
+class Ask:
+    """A line for numarun, or for its trial, a run beside it that writes nothing."""
+
+    line: str
+    trial: bool = False
+
+
+@dataclass(frozen=True)
+class Tell:
+    """Tells numarun, or its trial, of a container with this config, of which a copy is made for it."""
+
+    verb: Verb
+    name: str
+    config: Config
+    cpus: Cpus = NO_CPUS
+    trial: bool = False
+
+
+@dataclass(frozen=True)
+class OpenTrial:
+    """Begins a run that writes nothing, over the same machine."""
+
+
+@dataclass(frozen=True)
+class CloseTrial:
+    """Ends it."""
+
+
+@dataclass(frozen=True)
+class Link:
+    """Lets numarun reach a group by a container's id."""
+
+    name: str
+    path: str
+
+
+@dataclass(frozen=True)
+class Unlink:
+    """Lets it reach none by this id."""
+
+    name: str
+
+
+@dataclass(frozen=True)
+class Drop:
+    """Takes away the copies of a container's config."""
+
+    name: str
+
+
+@dataclass(frozen=True)
+class Write:
+    """A write of the agent's own, into a file of a group."""
+
+    path: str
+    file: str
+    text: str
+
+
+@dataclass(frozen=True)
+class Taken:
+    """What a group requested before the agent took it up, as texts; nothing where that can't be read. `system` is one of the system's."""
+
+    inode: int
+    cpus: Optional[str]
+    nodes: Optional[str]
+    system: bool
+
+
+@dataclass(frozen=True)
+class SaveTaken:
+    """Keeps what was taken, for a later --release."""
+
+    groups: Mapping[str, Taken]
+
+
+@dataclass(frozen=True)
+class Say:
+    """A line of the log."""
+
+    line: str
+    level: Level = Level.INFO
+
+
+@dataclass(frozen=True)
+class KeepCertificate:
+    lines: Tuple[str, ...]
+
+
+@dataclass(frozen=True)
+class LeaveFigures:
+    figures: Mapping[str, float]
+
+
+@dataclass(frozen=True)
+class RunPool:
+    """Runs the command that moves the rest of the machine onto these CPUs; a later look finds how it ended."""
+
+    cpus: Cpus
+
+
+Command = Union[Start, Ask, Tell, OpenTrial, CloseTrial, Link, Unlink, Drop, Write, SaveTaken, Say, KeepCertificate, LeaveFigures, RunPool]
+
+
+@dataclass(frozen=True)
+class Answer:
+    """The lines of numarun's answer, what it said on standard error, why the system refused what was to be done, and whether the agent
+    is told to end."""
+
+    lines: Tuple[str, ...] = ()
+    notes: Tuple[str, ...] = ()
+    why: Optional[str] = None
+    ending: bool = False
+
+
+T = TypeVar("T")
+Steps = Generator[Command, Answer, T]

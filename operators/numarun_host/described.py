@@ -1,0 +1,38 @@
+"""A machine as a machine file describes it, and how it is written."""
+
+from __future__ import annotations
+
+import json
+import os
+import sys
+from dataclasses import dataclass
+from typing import List, Sequence
+
+from .cpus import Cpus, print_list
+
+UNREACHABLE = 255  # a distance that is not told
+
+
+def say(text: str) -> None:
+    print(f"{os.path.basename(sys.argv[0])}: {text}", file=sys.stderr)
+
+
+@dataclass(frozen=True)
+class Described:
+    nodes: Sequence[Cpus]
+    distances: Sequence[Sequence[int]]
+    reserved: Cpus
+    offline: Cpus
+    cores: Sequence[str]  # none where each CPU is one
+
+    def text(self) -> str:
+        """The text of the machine file."""
+        lines: List[str] = [
+            f'"nodes": {json.dumps([print_list(cpus, "") for cpus in self.nodes])}',
+            f'"distances": {json.dumps(self.distances)}',
+            f'"reserved": "{print_list(self.reserved)}"',
+            f'"offline": {json.dumps(print_list(self.offline, ""))}',
+        ]
+        if self.cores:
+            lines.append(f'"cores": {json.dumps(self.cores)}')
+        return "{\n  " + ",\n  ".join(lines) + "\n}"

@@ -1,0 +1,229 @@
+"""What is done: the agent's lines to numarun, its links, copies, files and writes. Nothing is decided here."""
+
+from __future__ import annotations
+
+import json
+import logging
+import os
+import re
+import shlex
+import shutil
+import subprocess
+import sys
+import time
+from typing import Callable, Dict, List, Optional, Tuple, Type
+
+from .commands import (Answer, Ask, CloseTrial, Command, Drop, KeepCertificate, LeaveFigures, Link, OpenTrial, RunPool, SaveTaken, Say, Start,
+                       Steps, T, Tell, Unlink, Verb, Write)
+from .cpus import print_list
+from .links import CPUS_IN_EFFECT, NODES_IN_EFFECT, Links
+from .log import say
+from .machine import parse_machine
+from .program import Run
+from .records import Certificates, leave_figures
+from .script import Refused
+from .taken import Record, write_file
+
+EFFECTIVE_NOTE = re.compile(r"\S+/cpuset\.cpus\.effective: ")  # the agent compares these itself
+POOL_SECONDS = 30  # that --pool's command has
+FAREWELL = 10.0    # seconds that numarun has for an answer where the agent is told to end
+
+
+class Ending:
+    """Whether the agent is told to end, and until when an answer is waited for then."""
+
+    def __init__(self) -> None:
+        self.is_told, self.since = False, 0.0
+
+    def tell(self, *_: object) -> None:
+        self.is_told, self.since = True, self.since or time.monotonic()
+
+    def until(self) -> Optional[float]:
+        return self.since + FAREWELL if self.is_told else None
+
+
+class PoolCommand:
+    """The command of --pool, of which one runs at a time; the last list is told once the one before has ended."""
+
+    def __init__(self, words: str) -> None:
+        self.words = shlex.split(words)
+        self.next: Optional[str] = None
+        self.process: Optional[subprocess.Popen[bytes]] = None
+        self.command, self.until = "", 0.0
+        self.ended: List[Tuple[str, Optional[str]]] = []
+
+    def run(self, pool: str) -> None:
+        self.next = pool
+        self.look()
+
+    def look(self) -> None:
+        """Sees whether it has ended, and begins the next one."""
+        if self.process:
+            status = self.process.poll()
+            if status is None and time.monotonic() < self.until:
+                return
+            if status is None:
+                self.process.kill()
+                self.process.wait()
+            why = f"no end in {POOL_SECONDS} s" if status is None else f"status {status}" if status else None
+            self.process = None
+            self.ended.append((self.command, why))
+        if self.next is not None:
+            self.begin([*self.words, self.next])
+
+    def begin(self, words: List[str]) -> None:
+        self.next, self.command, self.until = None, shlex.join(words), time.monotonic() + POOL_SECONDS
+        try:
+            self.process = subprocess.Popen(words, stdin=subprocess.DEVNULL, stdout=sys.stderr)
+        except OSError as why:
+            self.ended.append((self.command, why.strerror))
+
+    def take(self) -> Tuple[Optional[str], Optional[str]]:
+        """How it ended since this was asked last: the command, and why it failed."""
+        self.look()
+        ended, self.ended = self.ended[-1:], []
+        return ended[0] if ended else (None, None)
+
+    def finish(self, seconds: float) -> None:
+        """Waits for its end."""
+        until = time.monotonic() + seconds
+        while self.process and time.monotonic() < until:
+            time.sleep(0.02)
+            self.look()
+
+
+class Hands:
+    """What does it, by the kind of the command."""
+
+    def __init__(self, program: str, machine: str, slit: Optional[str], work: str, links: Optional[Links], record: Record,
+                 certificates: Certificates, figures: str, pool: PoolCommand, log: logging.Logger, ending: Ending,
+                 patience: float) -> None:
+        self.program, self.machine, self.slit, self.work, self.links, self.record = program, machine, slit, work, links, record
+        self.certificates, self.figures, self.pool, self.log, self.ending, self.patience = certificates, figures, pool, log, ending, patience
+        self.run: Optional[Run] = None
+        self.trial: Optional[Run] = None
+        self.ways: Dict[Type[object], Callable[..., Answer]] = {
+            Start: self.start, Ask: self.ask, Tell: self.tell, OpenTrial: self.open_trial, CloseTrial: self.close_trial, Link: self.link,
+            Unlink: self.unlink, Drop: self.drop, Write: self.write, SaveTaken: self.save_taken, Say: self.say,
+            KeepCertificate: self.keep_certificate, LeaveFigures: self.leave_figures, RunPool: self.run_pool}
+
+    def do(self, command: Command) -> Answer:
+        return self.ways[type(command)](command)
+
+    def carry_out(self, steps: Steps[T]) -> T:
+        """Does each step, and sends back what came of it."""
+        try:
+            command = next(steps)
+            while True:
+                command = steps.send(self.do(command))
+        except StopIteration as end:
+            found: T = end.value
+            return found
+
+    def close(self) -> None:
+        for run in (self.trial, self.run):
+            if run:
+                run.close()
+
+    # The program.
+
+    def start(self, command: Start) -> Answer:
+        if self.run:
+            self.run.close()
+            self.run = None
+        path, more = os.path.join(self.work, "machine.json"), []
+        if self.links:
+            more = ["--cgroup", self.links.folder, "--adopt"]
+            self.links.show(CPUS_IN_EFFECT, command.shown)
+            self.links.show(NODES_IN_EFFECT, command.memory)
+        machine = parse_machine(self.machine)
+        machine.update(reserved=print_list(command.reserved), offline=print_list(command.offline, empty=""))
+        with open(path, "w") as file:
+            json.dump(machine, file)
+        try:
+            self.run = Run(self.program, path, self.slit, more, self.links.locks if self.links else (), self.patience, self.ending.until)
+        except Refused as why:
+            raise Refused(str(why).replace(path, self.machine)) from None
+        self.run.said()
+        return Answer(ending=self.ending.is_told)
+
+    def ask(self, command: Ask) -> Answer:
+        return self.answer_of(command.line, command.trial)
+
+    def tell(self, command: Tell) -> Answer:
+        folder = os.path.join(self.work, "bundles", "trial" if command.trial else "told", command.name)
+        os.makedirs(folder, exist_ok=True)
+        with open(os.path.join(folder, "config.json"), "w") as file:
+            json.dump(command.config, file)
+        cpus = f" {print_list(command.cpus)}" if command.verb is Verb.ADOPT else ""
+        return self.answer_of(f"{command.verb.value} {command.name} {folder}{cpus}", command.trial)
+
+    def answer_of(self, line: str, trial: bool) -> Answer:
+        run = self.trial if trial else self.run
+        assert run
+        lines = tuple(run.ask(line))
+        notes = () if trial else tuple(self.note_of(note) for note in run.said())
+        return Answer(lines, tuple(note for note in notes if not EFFECTIVE_NOTE.match(note)), ending=self.ending.is_told)
+
+    def note_of(self, note: str) -> str:
+        note = re.sub("^(error|note): ", "", note)
+        return note.replace(f"{self.links.folder}/numarun/", "") if self.links else note
+
+    def open_trial(self, _: OpenTrial) -> Answer:
+        self.trial = Run(self.program, os.path.join(self.work, "machine.json"), self.slit, (), (), self.patience, self.ending.until)
+        return Answer()
+
+    def close_trial(self, _: CloseTrial) -> Answer:
+        if self.trial:
+            self.trial.close()
+            self.trial = None
+        return Answer()
+
+    # Files.
+
+    def link(self, command: Link) -> Answer:
+        if self.links:
+            self.links.link(command.name, command.path)
+        return Answer()
+
+    def unlink(self, command: Unlink) -> Answer:
+        if self.links:
+            self.links.unlink(command.name)
+        return Answer()
+
+    def drop(self, command: Drop) -> Answer:
+        for which in ("told", "trial"):
+            shutil.rmtree(os.path.join(self.work, "bundles", which, command.name), ignore_errors=True)
+        return Answer()
+
+    def write(self, command: Write) -> Answer:
+        return Answer(why=write_file(os.path.join(command.path, command.file), command.text))
+
+    def save_taken(self, command: SaveTaken) -> Answer:
+        if self.links:
+            self.record.save(command.groups)
+        return Answer()
+
+    # What is left for others.
+
+    def say(self, command: Say) -> Answer:
+        say(self.log, command.line, command.level)
+        return Answer()
+
+    def keep_certificate(self, command: KeepCertificate) -> Answer:
+        try:
+            self.certificates.keep(command.lines)
+        except Refused as why:
+            return Answer(why=str(why))
+        return Answer()
+
+    def leave_figures(self, command: LeaveFigures) -> Answer:
+        try:
+            leave_figures(self.figures, command.figures)
+        except Refused as why:
+            return Answer(why=str(why))
+        return Answer()
+
+    def run_pool(self, command: RunPool) -> Answer:
+        self.pool.run(print_list(command.cpus))
+        return Answer()

@@ -1,0 +1,288 @@
+"""What the agent knows from look to look: the containers that numarun was told of, and what is left undone."""
+
+from __future__ import annotations
+
+import dataclasses
+from dataclasses import dataclass, field
+from enum import Enum
+from typing import Dict, FrozenSet, List, Mapping, Optional, Set, Tuple
+
+from .commands import Command, Level, Say, Steps, Taken
+from .configs import Config, Demand, Limit, Pin, stays
+from .cpus import NO_CPUS, Cpus
+from .machine import Machine
+from .seen import Group, Stamp, Told
+
+MOST_PAUSES = 64  # times the first one
+
+
+class State(Enum):
+    """What a container is for numarun."""
+
+    SHARED = "shared"      # it asks for no CPUs of its own, and runs on the pool
+    WAITING = "waiting"    # it asks for some, and runs on the pool until there is room
+    ASKING = "asking"      # numarun was told that it asks for some, and no plan has given it any yet
+    PINNED = "pinned"      # it has CPUs of its own
+    KEPT = "kept"          # its config can't be had: it has the CPUs of its own that it had before
+    POOLED = "pooled"      # its config can't be had: it runs on the pool
+    STOPPED = "stopped"    # its process has ended, and its runtime keeps it: it gave back what it had
+
+    @property
+    def is_pinned(self) -> bool:
+        """Whether numarun was told that it asks for CPUs of its own."""
+        return self in (State.ASKING, State.PINNED, State.KEPT)
+
+    @property
+    def has_had_a_plan(self) -> bool:
+        return self in (State.PINNED, State.KEPT)
+
+    @property
+    def is_bare(self) -> bool:
+        """Whether nothing of its config was told."""
+        return self in (State.KEPT, State.POOLED)
+
+
+@dataclass(frozen=True)
+class Sighting:
+    """A container that is there, as it was seen. `limit` and `nodes` are those of its group where its config has others; with no stamp
+    its config can't be seen, and stands for what it has."""
+
+    told: Told
+    stamp: Optional[Stamp]
+    config: Config
+    group: Group
+    limit: Optional[Limit] = None
+    nodes: Optional[Cpus] = None
+    age: int = 0
+    stopped: bool = False
+    near: Optional[int] = None  # the node of the device that it names
+
+    @property
+    def asks(self) -> Tuple[object, ...]:
+        """What it asks for is the same as long as this is the same."""
+        return self.stamp, self.group.inode, self.limit, self.nodes, self.stopped
+
+    @property
+    def place(self) -> str:
+        """What the log names it by, beside its id."""
+        return self.told.bundle or self.group.path
+
+
+@dataclass(frozen=True)
+class Container:
+    """A container that numarun was told of: what it asks for, what numarun was told that it asks for, and what it asks for by now where
+    there is no room for it yet; the CPUs and nodes that it requests; the home that it was given."""
+
+    name: str
+    seen: Sighting
+    state: State
+    demand: Demand
+    given: Demand
+    wanted: Optional[Demand] = None
+    cpus: Optional[Cpus] = None
+    nodes: Optional[Cpus] = None
+    followed: Optional[Cpus] = None  # the nodes that somebody gave its group, where it was told with these
+    home: Optional[Cpus] = None
+
+    @property
+    def stays(self) -> bool:
+        """Whether it is never moved."""
+        return stays(self.seen.config)
+
+
+class Topic(Enum):
+    """Of what something can be left undone. Of each container, path and the like there is one thing at most under each topic."""
+
+    CONTAINER = "container"
+    STAYS = "stays"
+    DRIFT = "drift"
+    SQUEEZED = "squeezed"
+    UNSEEN = "unseen"
+    SLICE = "slice"
+    PROCESSES = "processes"
+    DOUBLE = "double"
+    PLAN = "plan"
+    RECORD = "record"
+    POOL = "pool"
+    LOOK = "look"
+
+
+class Kind(Enum):
+    """What is left undone; its value is the first word of the line that says so."""
+
+    ABSENT = "absent"
+    STAYS = "stays"
+    UNSEEN = "unseen"
+    REFUSED = "refused"
+    WAITS = "waits"
+    KEEPS = "keeps"
+    FEWER = "fewer"
+    SHORT = "short"
+    FAILED = "failed"
+    DRIFT = "drift"
+    SQUEEZED = "squeezed"
+
+
+FULL = (Kind.WAITS, Kind.KEEPS, Kind.FEWER)  # what a full machine leaves undone
+
+
+@dataclass(frozen=True)
+class Problem:
+    """Something that is left undone."""
+
+    kind: Kind
+    of: str
+    text: str
+
+    @property
+    def line(self) -> str:
+        return f"{self.kind.value} {self.text}" if not self.text.startswith(":") else f"{self.kind.value}{self.text}"
+
+
+Key = Tuple[Topic, str]
+CONTAINER_TOPICS = (Topic.CONTAINER, Topic.STAYS, Topic.DRIFT, Topic.SQUEEZED)
+
+
+@dataclass(frozen=True)
+class Pause:
+    """What failed is not tried again before this time; the pause doubles each time."""
+
+    until: float
+    length: float
+
+
+@dataclass(frozen=True)
+class Settings:
+    """How the agent was told to work."""
+
+    machine: Machine
+    path: str = ""  # of the machine file
+    root: Optional[str] = None  # of the tree; nothing where no writes are to be made
+    pin: Pin = Pin.ALL
+    homes: bool = True
+    slices: Tuple[str, ...] = ()  # the groups of the system that are to be on the pool, below the root
+    pool_least: int = 0  # newcomers wait rather than bring the pool below so many CPUs
+    pause: float = 1.0
+    certificates: str = ""
+    figures: str = ""
+    pool: bool = False
+
+
+COUNTERS = ("plans_total", "moves_total", "steps_total", "shortages_total", "refused_writes_total", "distance", "distance_beyond_local")
+TIMES = ("waited_seconds_total", "squeezed_seconds_total")
+
+
+@dataclass
+class Ledger:
+    """All that the agent knows. `decide` works on a copy of what it is handed."""
+
+    settings: Settings
+    memory: Cpus = NO_CPUS   # the nodes that the tree's root has
+    reserved: Cpus = NO_CPUS
+    running: Cpus = NO_CPUS  # the CPUs that run, as numarun was told
+    shown: Cpus = NO_CPUS    # those that were there at the last look, reserved ones among them
+    switched: Dict[int, str] = field(default_factory=dict)  # `offline` or `online`, by the CPU, as it was told last
+    containers: Dict[str, Container] = field(default_factory=dict)  # by id, in the order in which numarun was told of them
+    problems: Dict[Key, Problem] = field(default_factory=dict)
+    unsaid: Set[Key] = field(default_factory=set)          # those that are said at the next look, if they are there then
+    refused: Dict[str, Sighting] = field(default_factory=dict)   # who was refused, as it was seen then
+    blocking: Dict[str, Sighting] = field(default_factory=dict)  # who runs on CPUs and can't be adopted at the moment
+    taken: Dict[str, Taken] = field(default_factory=dict)        # by the path of the group
+    renewed: Dict[str, Taken] = field(default_factory=dict)      # the same of paths at which another group is by now
+    known: FrozenSet[str] = frozenset()  # the paths that an agent before had taken
+    before: Dict[str, Tuple[Optional[str], Optional[bool]]] = field(default_factory=dict)  # by id the group, and whether it was pinned
+    pauses: Dict[Tuple[str, str], Pause] = field(default_factory=dict)
+    pool: Optional[Cpus] = None  # the CPUs of all that have none of their own
+    tried: Optional[List[str]] = None  # what a plan that a write kept from its end was to change
+    due: bool = False     # whether a plan is to be worked out though nothing happened
+    unmade: bool = False  # whether an update was not made, since a write failed
+    spent: bool = False   # whether numarun has no pids left, so that a new run is wanted
+    started: bool = False
+    wrong: bool = False   # whether there was an event that was refused
+    ending: bool = False
+    notes: Tuple[str, ...] = ()
+    silent: Dict[str, Tuple[int, str]] = field(default_factory=dict)  # by a watched folder why it has no containers, and for how many looks
+    titles: Mapping[str, str] = field(default_factory=dict)
+    counts: Dict[str, int] = field(default_factory=lambda: dict.fromkeys(COUNTERS, 0))
+    times: Dict[str, float] = field(default_factory=lambda: dict.fromkeys(TIMES, 0.0))
+    looked: Optional[float] = None  # when it looked last
+
+    def copy(self) -> Ledger:
+        """Another one, of which each part can be changed by itself."""
+        mine = {part.name: getattr(self, part.name) for part in dataclasses.fields(self)}
+        return Ledger(**{name: type(value)(value) if isinstance(value, (dict, set, list)) else value for name, value in mine.items()})
+
+    @property
+    def all_taken(self) -> Dict[str, Taken]:
+        """What is kept for the next agent, which has to look at groups that came anew where this one has not."""
+        return {**self.renewed, **self.taken}
+
+    def title(self, name: str) -> str:
+        """What the log calls a container: its id, or a shorter name where that is long."""
+        return self.titles.get(name, name)
+
+    @property
+    def has_tree(self) -> bool:
+        return self.settings.root is not None
+
+    def put(self, container: Container) -> None:
+        self.containers[container.name] = container
+
+    def change(self, name: str, **parts: object) -> Container:
+        """Puts other parts in the place of a container's own."""
+        container = dataclasses.replace(self.containers[name], **parts)
+        self.containers[name] = container
+        return container
+
+    def problem(self, topic: Topic, of: str = "") -> Optional[Kind]:
+        """What is left undone, if something is."""
+        found = self.problems.get((topic, of))
+        return found.kind if found else None
+
+    def settle(self, topic: Topic, of: str = "", *kinds: Kind) -> None:
+        """It is done now, or what of these kinds was left."""
+        if (topic, of) in self.problems and (not kinds or self.problems[topic, of].kind in kinds):
+            del self.problems[topic, of]
+            self.unsaid.discard((topic, of))
+
+    def forget(self, name: str, *topics: Topic) -> None:
+        """Nothing is there of a container any more, and nothing is left to be said of it, or nothing under these topics."""
+        for topic in topics or CONTAINER_TOPICS:
+            self.settle(topic, name)
+        for kept in (self.refused, self.blocking):
+            kept.pop(name, None)
+        self.pauses.pop(("container", name), None)
+
+    def is_over(self, what: str, of: str, now: float) -> bool:
+        """Whether what failed may be tried again."""
+        return (what, of) not in self.pauses or now >= self.pauses[what, of].until
+
+    def begin_pause(self, what: str, of: str, now: float) -> None:
+        """It has failed."""
+        first = max(self.settings.pause, 0.05)
+        before = self.pauses.get((what, of))
+        length = min(2 * before.length, MOST_PAUSES * first) if before else first
+        self.pauses[what, of] = Pause(now + length, length)
+
+    def end_pause(self, what: str, of: str = "") -> None:
+        self.pauses.pop((what, of), None)
+
+
+def report(ledger: Ledger, topic: Topic, of: str, kind: Kind, text: str) -> Steps[None]:
+    """Says what is left undone, once as long as it is the same."""
+    problem = Problem(kind, of, text)
+    if ledger.problems.get((topic, of)) != problem or (topic, of) in ledger.unsaid:
+        ledger.problems[topic, of] = problem
+        ledger.unsaid.discard((topic, of))
+        yield Say(problem.line, Level.WARNING)
+
+
+def say_unsaid(ledger: Ledger) -> List[Command]:
+    """Says at the end what would have been said at the next look."""
+    return [Say(ledger.problems[key].line, Level.WARNING) for key in sorted(ledger.unsaid, key=lambda key: (key[0].value, key[1]))]
+
+
+def is_undone(ledger: Ledger, told_to_end: bool) -> bool:
+    """Whether something is left undone that the exit status names: of one that was told to end, no container that has no room."""
+    left = [problem for problem in ledger.problems.values() if not (told_to_end and problem.kind in FULL)]
+    return bool(ledger.wrong or ledger.due or left)

@@ -1,0 +1,130 @@
+"""A look: reads what there is of each container, of the groups and of the machine, and decides nothing."""
+
+from __future__ import annotations
+
+import os
+import stat
+from typing import Dict, FrozenSet, Mapping, Optional, Set, Tuple, Union
+
+from .cgroups import Groups, group_path, has_ended, read_file, read_json
+from .configs import NEAR, Config, wish_of
+from .cpus import read_list
+from .devices import node_of_device
+from .homes import FreeMemory, free_memory
+from .ledger import Ledger, Settings
+from .names import Names
+from .script import Refused, read_text
+from .seen import Found, Group, Look, Missing, NoGroup, Online, Stamp, Told
+from .sources import Source
+
+LIST_BYTES = 1 << 16
+
+
+class Eyes:
+    """What looks at a machine, and what it keeps from look to look."""
+
+    def __init__(self, settings: Settings, source: Source, online: Optional[str], nodes: str, groups: Optional[Groups], parent: str,
+                 sysfs: str = "/sys") -> None:
+        self.settings, self.source, self.online_path, self.nodes, self.groups, self.parent = settings, source, online, nodes, groups, parent
+        self.sysfs = sysfs
+        self.configs: Dict[str, Tuple[Stamp, Config]] = {}
+        self.found: Dict[str, Found] = {}
+        self.names = Names()
+        self.online = self.read_online()
+
+    def look(self, ledger: Ledger, now: float) -> Look:
+        fault: Optional[str] = None
+        try:
+            self.source.look()
+            if self.online_path:
+                self.online = self.read_online()
+        except Refused as why:
+            fault = str(why)
+        told = {name: self.container(ledger, name, one) for name, one in self.source.told.items()}
+        self.configs = {name: config for name, config in self.configs.items() if name in told}
+        self.found = {name: found for name, found in self.found.items() if name in told}
+        below: Mapping[str, Tuple[str, ...]] = {}
+        groups: Mapping[str, Union[Group, NoGroup]] = {}
+        busy: FrozenSet[str] = frozenset()
+        if self.groups:
+            groups, below, busy = self.look_at_groups(self.groups, ledger, told)
+        wrong, events = tuple(self.source.wrong), tuple(self.source.events)
+        self.source.wrong, self.source.events = [], []
+        return Look(now, told, groups, self.online, events, wrong, self.memory(), below, busy, self.source.folders, self.source.doubles,
+                    self.names.titles(self.source.told, ledger.containers), fault)
+
+    # Containers.
+
+    def container(self, ledger: Ledger, name: str, told: Told) -> Union[Found, Missing]:
+        path = f"{told.bundle}/config.json"
+        try:
+            there = os.stat(path)
+        except (OSError, ValueError):
+            return Missing(told, f"{path}: can't be read")
+        stamp: Stamp = (told, there.st_dev, there.st_ino, there.st_mtime_ns, there.st_size)
+        if not stat.S_ISREG(there.st_mode):
+            return Missing(told, f"{path}: no file")
+        try:
+            config = self.config(name, stamp, path)
+            place = self.place(ledger, name, stamp, config, told)
+        except Refused as why:
+            return Missing(told, str(why), in_parts=True)
+        group = self.groups.look_at(place) if self.groups else Group(place, 0)
+        if isinstance(group, NoGroup):
+            return Missing(told, group.why)
+        stopped = group.populated is False and told.folder is not None and has_ended(told.folder)
+        before = self.found.get(name)
+        if before and before.stamp == stamp and before.group is group and before.stopped == stopped:
+            return before
+        device = wish_of(config, NEAR)
+        near = None if device is None else node_of_device(device, self.sysfs)
+        found = self.found[name] = Found(told, stamp, config, group, there.st_mtime_ns, stopped, near)
+        return found
+
+    def config(self, name: str, stamp: Stamp, path: str) -> Config:
+        before = self.configs.get(name)
+        if before is None or before[0] != stamp:
+            self.configs.pop(name, None)
+            before = self.configs[name] = stamp, read_json(path)
+        return before[1]
+
+    def place(self, ledger: Ledger, name: str, stamp: Stamp, config: Config, told: Told) -> str:
+        """The path of its group, which is that of one that is known already."""
+        container = ledger.containers.get(name)
+        if container and container.seen.stamp == stamp:
+            return container.seen.group.path
+        return group_path(self.groups.root, self.parent, name, config, told.folder, told.group) if self.groups else ""
+
+    # Groups.
+
+    def look_at_groups(self, groups: Groups, ledger: Ledger, told: Mapping[str, Union[Found, Missing]]
+                       ) -> Tuple[Mapping[str, Union[Group, NoGroup]], Mapping[str, Tuple[str, ...]], FrozenSet[str]]:
+        """Those of containers that are told, or were, those that an agent took, and those of the system; what is below these; and which have
+        processes of their own."""
+        found: Dict[str, Union[Group, NoGroup]] = {one.group.path: one.group for one in told.values() if isinstance(one, Found)}
+        paths: Set[str] = {container.seen.group.path for container in ledger.containers.values()}
+        paths |= {path for path, _ in ledger.before.values() if path} | ledger.taken.keys() | ledger.renewed.keys()
+        ways = groups.ways_to(self.settings.slices, frozenset(paths | found.keys())) if self.settings.slices else set()
+        below = {path: groups.children(path) for path in ways}
+        paths |= ways | {f"{groups.root}/{name}" for name in self.settings.slices}
+        paths |= {f"{path}/{child}" for path, children in below.items() for child in children}
+        found.update((path, groups.look_at(path)) for path in paths - found.keys())
+        groups.end_look()
+        return found, below, frozenset(path for path in ways if read_file(f"{path}/cgroup.procs"))
+
+    # The machine.
+
+    def read_online(self) -> Online:
+        """The CPUs that may be used: those of the kernel's list that the root of the tree has in effect."""
+        machine, effective = self.settings.machine, self.groups.effective_cpus() if self.groups else None
+        if self.online_path:
+            listed = read_list(read_text(self.online_path, LIST_BYTES), self.online_path)
+        else:
+            listed = machine.present - machine.offline
+        there = listed if effective is None else listed & effective
+        strange = (listed if effective is None else effective) - machine.present
+        return Online(there & machine.present, strange, (listed - there) & machine.present, not self.online_path)
+
+    def memory(self) -> FreeMemory:
+        machine = self.settings.machine
+        return free_memory(self.nodes, machine) if self.settings.homes and self.groups and len(machine.nodes) > 1 else {}

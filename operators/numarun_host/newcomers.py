@@ -1,0 +1,205 @@
+"""Those that come: each is told of as what it is already, on the CPUs that its group requests, or else as a new one."""
+
+from __future__ import annotations
+
+import re
+from collections import Counter
+from dataclasses import dataclass
+from typing import Dict, List, Optional
+
+from .commands import Drop, Link, SaveTaken, Say, Steps, Taken, Tell, Unlink, Verb
+from .configs import Demand, bare, fewer, shared, stays, staying
+from .cpus import NO_CPUS, Cpus, print_list
+from .ledger import Container, Kind, Ledger, Sighting, State, Topic, report
+from .placing import demand_of, free_cpus, promise, say_home
+from .sightings import nodes_of
+from .telling import CONFIG_FAULTS, NOT_FREE, Reply, Turn, ask, report_failure, requested
+
+ID = re.compile(r"[A-Za-z0-9_.+-]{1,64}")
+
+
+@dataclass(frozen=True)
+class Way:
+    """How a container may be told: with which demand, whether it waits then, and the CPUs that it begins on."""
+
+    given: Demand
+    waits: bool
+    cpus: Cpus
+
+
+def take_all(turn: Turn) -> Steps[bool]:
+    """Tells of those that are there and were not told of yet; whether there was one, also where the agent ends before it is told of. The
+    system's own groups come last."""
+    ledger = turn.ledger
+    come = {name: seen for name, seen in turn.there.items() if name not in ledger.containers and is_new(turn, name, seen)}
+    places = {path: place for place, path in enumerate(ledger.taken)}
+    names = sorted(come, key=lambda name: (come[name].told.is_system, places.get(come[name].group.path, len(places)), come[name].age, name))
+    yield from keep_what_they_had(turn, [come[name] for name in names])
+    turn.owners = {container.seen.group.path: name for name, container in ledger.containers.items()} if ledger.has_tree else {}
+    turn.users, turn.spare, taken = None, None, False
+    for name in names:
+        if ledger.ending:
+            return True
+        taken = (yield from take_up(turn, name, come[name])) or taken
+    return taken
+
+
+def is_new(turn: Turn, name: str, sighting: Sighting) -> bool:
+    """Whether it was not refused as it is."""
+    before = turn.ledger.refused.get(name)
+    same = before is not None and (before.asks, before.group.path) == (sighting.asks, sighting.group.path)
+    return not same and turn.ledger.is_over("container", name, turn.now)
+
+
+def keep_what_they_had(turn: Turn, come: List[Sighting]) -> Steps[None]:
+    """Keeps what these groups request, those of which nothing is kept, before any of them is written."""
+    ledger, new = turn.ledger, False
+    for sighting in come if ledger.has_tree else []:
+        group, before = sighting.group, ledger.taken.get(sighting.group.path)
+        if before is None or before.inode != group.inode:
+            ledger.taken[group.path] = Taken(group.inode, *group.texts, sighting.told.is_system)
+            new = True
+    if new:
+        yield SaveTaken(ledger.all_taken)
+
+
+def take_up(turn: Turn, name: str, sighting: Sighting) -> Steps[bool]:
+    """Tells of a container that is there; whether it was taken."""
+    ledger, owner = turn.ledger, turn.owners.get(sighting.group.path)
+    if not ID.fullmatch(name) or name in (".", ".."):
+        return (yield from refuse(turn, name, sighting, Reply(("refused E91 BadId",)), NO_CPUS))
+    if owner:
+        text = f": its group is that of {ledger.title(owner)}: {ledger.title(name)} {sighting.place}"
+        ledger.refused[name] = sighting
+        yield from report(ledger, Topic.CONTAINER, name, Kind.REFUSED, text)
+        return False
+    cpus = sighting.group.cpus & ledger.settings.machine.present
+    demand = demand_of(turn, sighting)
+    yield Link(name, sighting.group.path)
+    fault: Optional[Reply] = None
+    for way in ways_of(turn, sighting, demand, cpus):
+        reply = yield from tell(ledger, name, sighting, way)
+        if reply.fault != NOT_FREE and reply.fault not in CONFIG_FAULTS:
+            break
+        fault = fault if reply.fault == NOT_FREE else reply
+    if reply.fault is not None:
+        return (yield from refuse(turn, name, sighting, reply, cpus))
+    yield from hold(turn, name, sighting, demand, way, cpus, fault)
+    return True
+
+
+def ways_of(turn: Turn, sighting: Sighting, demand: Demand, cpus: Cpus) -> List[Way]:
+    """How a container may be told, the best way first."""
+    ledger, alone = turn.ledger, is_alone(turn, sighting, cpus)
+    less, own = shared(demand.config), cpus if alone and not cpus & ledger.reserved else NO_CPUS
+    if demand.count is None:
+        begins = cpus or (free_cpus(ledger) if sighting.told.is_system else NO_CPUS)
+        ways = [Way(demand, False, begins), Way(demand, False, NO_CPUS)]
+    elif not alone and (cpus & ledger.reserved or len(cpus) > demand.count):
+        ways = [Way(less, True, cpus), Way(demand, False, NO_CPUS)]
+    else:
+        ways = [*ways_to_keep(sighting, demand, own), Way(demand, False, cpus), Way(demand, False, NO_CPUS)]
+    return ways + ways_without_config(ledger, sighting, less, own, cpus)
+
+
+def ways_to_keep(sighting: Sighting, demand: Demand, cpus: Cpus) -> List[Way]:
+    """The same of one that has CPUs of its own, and is never moved, or has fewer than it asks for."""
+    if not cpus or demand.count is None:
+        return []
+    less = demand if len(cpus) >= demand.count else fewer(demand, len(cpus))
+    if stays(sighting.config) and len(cpus) <= demand.count:
+        return [Way(staying(less, cpus), False, cpus)]
+    return [Way(less, False, cpus)] if less != demand else []
+
+
+def ways_without_config(ledger: Ledger, sighting: Sighting, less: Demand, own: Cpus, cpus: Cpus) -> List[Way]:
+    """The same where its config can't be had: as it is, if an agent gave it CPUs before, or else on the pool."""
+    nodes = nodes_of(ledger, sighting.group)
+    kept = [Way(bare(own, nodes), False, own)] if own and sighting.group.path in ledger.known else []
+    return kept + [Way(given, False, begins) for given in (less, bare(NO_CPUS, nodes)) for begins in (cpus, NO_CPUS)]
+
+
+def is_alone(turn: Turn, sighting: Sighting, cpus: Cpus) -> bool:
+    """Whether no other group that is told of requests one of these CPUs, outside the reserved ones."""
+    if turn.users is None:
+        has: Dict[str, Cpus] = {container.seen.group.path: container.cpus or NO_CPUS for container in turn.ledger.containers.values()}
+        has.update((seen.group.path, seen.group.cpus) for name, seen in turn.there.items() if name not in turn.ledger.containers)
+        turn.users = Counter(cpu for cpus in has.values() for cpu in cpus)
+    return all(turn.users[cpu] <= (cpu in sighting.group.cpus) for cpu in cpus - turn.ledger.reserved)
+
+
+def tell(ledger: Ledger, name: str, sighting: Sighting, way: Way) -> Steps[Reply]:
+    """Adopts a container on these CPUs, or makes it on the reserved ones."""
+    verb = Verb.ADOPT if way.cpus else Verb.CREATE
+    reply = yield from ask(ledger, Tell(verb, name, way.given.config, way.cpus))
+    if reply.fault is None:
+        yield Say(f"{verb.value} {ledger.title(name)} {sighting.place}" + (f" {print_list(way.cpus)}" if way.cpus else ""))
+    return reply
+
+
+def hold(turn: Turn, name: str, sighting: Sighting, demand: Demand, way: Way, cpus: Cpus, fault: Optional[Reply]) -> Steps[None]:
+    """A container that was told is one of those that are held."""
+    ledger, given = turn.ledger, way.given
+    has, nodes = yield from requested(ledger, name)
+    refused = fault if fault and given != demand and not way.waits else None
+    own = len(cpus & (has or NO_CPUS) - ledger.reserved) if has else 0
+    state = state_of(given, way.waits, refused is not None and given != shared(demand.config), own)
+    container = Container(name, sighting, state, given if refused else demand, given, None, has, nodes, sighting.nodes)
+    ledger.put(container)
+    if ledger.has_tree:
+        turn.owners[sighting.group.path] = name
+    ledger.forget(name, Topic.CONTAINER, Topic.DRIFT, Topic.SQUEEZED)
+    if not way.waits:
+        yield from say_home(ledger, name)
+    promise(turn, container)
+    if refused:
+        where = "it stays as it was" if given.count else "it runs on the pool"
+        yield from report(ledger, Topic.CONTAINER, name, Kind.REFUSED, f"{refused.refusal}: {ledger.title(name)} {sighting.place}: {where}")
+
+
+def state_of(given: Demand, waits: bool, bare_config: bool, own: int) -> State:
+    """What one is that was told so, and has so many CPUs of its own."""
+    if waits:
+        return State.WAITING
+    if given.count is None:
+        return State.POOLED if bare_config else State.SHARED
+    if bare_config:
+        return State.KEPT
+    return State.PINNED if own >= given.count else State.ASKING
+
+
+def refuse(turn: Turn, name: str, sighting: Sighting, reply: Reply, cpus: Optional[Cpus] = None) -> Steps[bool]:
+    """A container that is not told. One that runs on CPUs and can't be told of at the moment lets no plan be safe."""
+    ledger = turn.ledger
+    yield Unlink(name)
+    yield Drop(name)
+    if reply.is_momentary:
+        yield from report_failure(ledger, name, sighting.place, reply)
+        ledger.begin_pause("container", name, turn.now)
+        if sighting.group.cpus if cpus is None else cpus:
+            ledger.blocking[name] = sighting
+        return False
+    ledger.refused[name] = sighting
+    yield from report(ledger, Topic.CONTAINER, name, Kind.REFUSED, f"{reply.refusal}: {ledger.title(name)} {sighting.place}")
+    return False
+
+
+def is_held_up(turn: Turn) -> Steps[bool]:
+    """Whether somebody runs on CPUs who can't be told of at the moment, so that a plan might give these to others; says who."""
+    ledger, there = turn.ledger, turn.there
+    ledger.blocking = {name: seen for name, seen in ledger.blocking.items() if name in there or turn.runs(seen.group.path, seen.group.inode)}
+    known = {seen.group.path for seen in [*ledger.blocking.values(), *there.values()]}
+    unseen = [path for path, taken in ledger.taken.items()
+              if not taken.system and path not in known and turn.runs(path, taken.inode) and has_some(turn, path)]
+    for topic, of in [key for key in ledger.problems if key[0] is Topic.UNSEEN and key[1] not in unseen]:
+        ledger.settle(topic, of)
+    for path in unseen:
+        text = f"{path}: it was told of before, and there is a process in it: no plan until it is told"
+        yield from report(ledger, Topic.UNSEEN, path, Kind.UNSEEN, text)
+    return bool(ledger.blocking or unseen)
+
+
+def has_some(turn: Turn, path: str) -> bool:
+    """Whether a group requests CPUs that a plan may give to others, or all."""
+    group = turn.look.group(path)
+    return group is not None and (not group.cpus or bool(group.cpus - turn.ledger.reserved))

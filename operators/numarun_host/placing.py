@@ -1,0 +1,90 @@
+"""What a container is told to ask for: its CPUs, and where it names no nodes of memory a home."""
+
+from __future__ import annotations
+
+from typing import Optional
+
+from .commands import Say, Steps
+from .configs import NEAR, Config, Demand, Pin, asked, cpus_allowed, housed, limited, nodes_named, shared, wish_of
+from .cpus import NO_CPUS, Cpus, print_list
+from .homes import home_of
+from .ledger import Container, Ledger, Sighting, State
+from .script import Refused
+from .telling import Turn
+
+
+def free_cpus(ledger: Ledger) -> Cpus:
+    """The CPUs that no pinned container requests, the reserved ones among them."""
+    taken = [container.cpus or NO_CPUS for container in ledger.containers.values() if container.state.is_pinned]
+    return ledger.running.difference(*taken) | ledger.reserved
+
+
+def spare_cpus(turn: Turn) -> Cpus:
+    """Those of them that are promised to nobody."""
+    if turn.spare is None:
+        turn.spare = free_cpus(turn.ledger) - turn.ledger.reserved
+        for container in turn.ledger.containers.values():
+            promise(turn, container)
+    return turn.spare
+
+
+def promise(turn: Turn, container: Container) -> None:
+    """Leaves out as many cores at its home as one has yet to get."""
+    ledger, machine = turn.ledger, turn.ledger.settings.machine
+    lacking = (container.given.count or 0) - len((container.cpus or NO_CPUS) - ledger.reserved)
+    if turn.spare is None or lacking <= 0:
+        return
+    homes = nodes_named(container.given.config)
+    near = frozenset(cpu for cpu in turn.spare if not homes or machine.node_of[cpu] in homes)
+    for core in sorted(machine.cores_in(near))[:lacking // machine.threads]:
+        turn.spare -= machine.cores[core]
+
+
+def choose_home(turn: Turn, sighting: Sighting, config: Config, count: int) -> Optional[Cpus]:
+    """A home for one that names none: where the device is that it names, or where its own CPUs are if it has some, or else where there is
+    room."""
+    ledger, machine = turn.ledger, turn.ledger.settings.machine
+    if not ledger.settings.homes or len(machine.nodes) < 2 or nodes_named(config):
+        return None
+    if sighting.near is not None and sighting.near in ledger.memory:
+        return frozenset({sighting.near})
+    own, home = sighting.group.cpus & machine.present, None
+    if len(own) == count and not own & ledger.reserved:
+        home = frozenset(machine.node_of[cpu] for cpu in own)
+    else:
+        free = spare_cpus(turn) & cpus_allowed(config, machine.present)
+        home = home_of(machine, config, count, free, turn.look.free_memory)
+    return home if home and home != {node for node, cpus in enumerate(machine.nodes) if cpus} else None
+
+
+def demand_of(turn: Turn, sighting: Sighting, home: Optional[Cpus] = None) -> Demand:
+    """What a container asks for."""
+    settings = turn.ledger.settings
+    config = limited(sighting.config, sighting.limit, sighting.nodes)
+    try:
+        count, rather = (asked(config, rule, settings.machine) for rule in (settings.pin, Pin.ALL))
+        if count is not None and not sighting.stopped:
+            home = home or choose_home(turn, sighting, config, count)
+            return Demand(housed(config, home) if home else config, count)
+    except Refused:
+        return Demand(config, None)  # numarun refuses it
+    return shared(config) if rather is not None else Demand(config, None)
+
+
+def demand_with_home(turn: Turn, container: Container) -> Demand:
+    """The demand of one that waits, with a home if there is room for one by now."""
+    turn.spare = None
+    if container.state is State.WAITING and not container.home:
+        return demand_of(turn, turn.there.get(container.name, container.seen))
+    return container.demand
+
+
+def say_home(ledger: Ledger, name: str) -> Steps[None]:
+    """Says which home a container was given, once."""
+    container = ledger.containers[name]
+    given = container.followed or nodes_named(container.seen.config)
+    home = None if given else nodes_named(container.demand.config) or None
+    ledger.change(name, home=home)
+    if home and home != container.home:
+        device = wish_of(container.seen.config, NEAR) if home == {container.seen.near} else None
+        yield Say(f"home {ledger.title(name)} {print_list(home)}" + (f": {device} is there" if device else ""))

@@ -1,0 +1,124 @@
+"""Plans: those who want more get it where there is room, a plan is worked out, and the containers are handed over to it, write by write."""
+
+from __future__ import annotations
+
+from typing import List, Set
+
+from .commands import Ask, KeepCertificate, Level, RunPool, Say, Steps
+from .configs import staying
+from .cpus import NO_CPUS, print_list
+from .ledger import Kind, Ledger, State, Topic, report
+from .room import Outcome, ease, make_room, outcome_of, say_fewer, spare_the_pool
+from .telling import Turn, ask, requested, tell_update
+
+LOCAL = 10
+
+
+def arrange(turn: Turn) -> Steps[None]:
+    """Gives more to those who want it and have room, and works out a plan. Where that lets somebody wait, others may have room then."""
+    tried, before = (yield from make_room(turn)), waiting(turn.ledger)
+    yield from plan(turn)
+    if (not tried or waiting(turn.ledger) - before) and not turn.ledger.due:
+        yield from make_room(turn)
+        if turn.ledger.due:
+            yield from plan(turn)
+
+
+def waiting(ledger: Ledger) -> Set[str]:
+    return {name for name, container in ledger.containers.items() if container.state is State.WAITING}
+
+
+def plan(turn: Turn) -> Steps[None]:
+    """Works out a plan, and hands over to it."""
+    ledger = turn.ledger
+    yield from spare_the_pool(turn)
+    outcome = outcome_of((yield from ask(ledger, Ask("begin"))))
+    while outcome.shortage and not ledger.ending and (yield from ease(turn, outcome.shortage)):
+        outcome = outcome_of((yield from ask(ledger, Ask("begin"))))
+    yield from say_fewer(turn)
+    if ledger.settings.certificates:
+        yield from keep_certificate(ledger)
+    if not outcome.is_plan:
+        ledger.counts["shortages_total"] += bool(outcome.shortage)
+        ledger.due = not outcome.shortage
+        ledger.begin_pause("plan", "", turn.now)
+        kind = Kind.SHORT if outcome.shortage else Kind.REFUSED
+        yield from report(ledger, Topic.PLAN, "", kind, outcome.text.partition(" ")[2])
+        return
+    ledger.due = True
+    changes = changes_of(ledger, outcome)
+    for line in [outcome.text, *changes] if changes != ledger.tried else []:
+        yield Say(line)
+    ledger.tried = changes
+    moves = sum(len(cpus - (ledger.containers[name].cpus or NO_CPUS)) for name, cpus in outcome.holds.items())
+    if (yield from hand_over(turn, outcome)):
+        count_plan(ledger, outcome, moves)
+
+
+def keep_certificate(ledger: Ledger) -> Steps[None]:
+    reply = yield from ask(ledger, Ask("certificate"))
+    why = (yield KeepCertificate(reply.lines)).why
+    folder = ledger.settings.certificates
+    if why:
+        yield from report(ledger, Topic.RECORD, folder, Kind.FAILED, why)
+    else:
+        ledger.settle(Topic.RECORD, folder)
+
+
+def changes_of(ledger: Ledger, outcome: Outcome) -> List[str]:
+    """The lines of what a plan changes."""
+    lines = [f"hold {ledger.title(name)} {print_list(cpus)}" for name, cpus in outcome.holds.items() if cpus != ledger.containers[name].cpus]
+    return lines + ([f"pool {print_list(outcome.pool)}"] if outcome.pool != ledger.pool else [])
+
+
+def count_plan(ledger: Ledger, outcome: Outcome, moves: int) -> None:
+    """A plan that was handed over: its total distance, and how many CPUs moved."""
+    total = outcome.total or 0
+    ledger.counts["plans_total"] += 1
+    ledger.counts["moves_total"] += moves
+    ledger.counts["distance"] = total
+    ledger.counts["distance_beyond_local"] = total - LOCAL * sum(map(len, outcome.holds.values()))
+
+
+def hand_over(turn: Turn, outcome: Outcome) -> Steps[bool]:
+    """Makes the writes of a plan, one after another; whether all were made."""
+    ledger = turn.ledger
+    while True:
+        if ledger.ending:
+            return False
+        reply = yield from ask(ledger, Ask("step"))
+        ledger.counts["steps_total"] += 1
+        if reply.first != "more":
+            break
+    if reply.first != "done":
+        yield from report(ledger, Topic.PLAN, "", Kind.FAILED, reply.note)
+        ledger.begin_pause("plan", "", turn.now)
+        for name in list(ledger.containers):
+            cpus, nodes = yield from requested(ledger, name)
+            ledger.change(name, cpus=cpus, nodes=nodes)
+        return False
+    ledger.due, ledger.tried = False, None
+    ledger.settle(Topic.PLAN)
+    ledger.end_pause("plan")
+    for name, container in list(ledger.containers.items()):
+        state = State.PINNED if name in outcome.holds and container.state is State.ASKING else container.state
+        ledger.change(name, cpus=outcome.holds.get(name, outcome.pool), state=state)
+    yield Say("done")
+    yield from stay_put(turn)
+    if outcome.pool != ledger.pool:
+        if len(outcome.pool) < ledger.settings.pool_least:
+            least = ledger.settings.pool_least
+            yield Say(f"note the pool has {len(outcome.pool)} CPUs, and keeps {least}: nobody else gets CPUs of its own", Level.NOTICE)
+        ledger.pool = outcome.pool
+        if ledger.settings.pool:
+            yield RunPool(outcome.pool)
+    return True
+
+
+def stay_put(turn: Turn) -> Steps[None]:
+    """Tells of those that are never moved that they ask for just what they have."""
+    for name, container in list(turn.ledger.containers.items()):
+        if container.stays and container.state.is_pinned:
+            demand = staying(container.given, container.cpus or NO_CPUS)
+            if demand.config != container.given.config:
+                yield from tell_update(turn, name, demand, quiet=True)

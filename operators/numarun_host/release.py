@@ -1,0 +1,47 @@
+"""Gives back what an agent took: each group requests again what it did before, or all CPUs and nodes where the kernel takes no empty
+list of a group that has processes. No agent may run meanwhile."""
+
+from __future__ import annotations
+
+import os
+from typing import Optional, Sequence
+
+from .cgroups import read_file
+from .commands import Taken
+from .links import CPUS_IN_EFFECT, NODES_IN_EFFECT, Links
+from .slices import FILES
+from .taken import Whole, read_record, write_file
+
+
+def release(root: str, work: str, slices: Sequence[str]) -> int:
+    """Says what was given back; 1 where a write was refused."""
+    links, record, status = Links(root, work), read_record(work), 0
+    if not all(text not in (None, "-") for text in record.whole):
+        record.whole = (read_file(f"{links.root}/{CPUS_IN_EFFECT}") or "", read_file(f"{links.root}/{NODES_IN_EFFECT}") or "")
+    more = [path for path in (os.path.join(links.root, name) for name in slices) if os.path.isdir(path)]
+    for path in sorted({*record.groups, *more}):
+        why = give_back(path, record.groups.get(path, Taken(0, "", "", True)), record.whole)
+        if why:
+            print(f"failed {why}")
+            status = 1
+            continue
+        has = [read_file(os.path.join(path, file)) or "-" for file in FILES]
+        print(f"given back {path}: cpus {has[0]} mems {has[1]}")
+        record.groups.pop(path, None)
+    if record.groups:
+        record.save(record.groups)
+    elif os.path.exists(record.path):
+        os.remove(record.path)
+    return status
+
+
+def give_back(path: str, taken: Taken, whole: Whole) -> Optional[str]:
+    """Lets a group request what it did before, or all; why it can't, or nothing."""
+    for file, text, everything in zip(FILES, (taken.cpus, taken.nodes), whole):
+        if text is None:
+            continue
+        why = write_file(os.path.join(path, file), text)
+        why = write_file(os.path.join(path, file), everything or "") if why and not text else why
+        if why:
+            return why
+    return None

@@ -1,0 +1,87 @@
+"""What groups requested before the agent took them up, kept in a file of its folder, so that it can be given back: by --release all of
+it, and of a group of the system that is on the way to a pinned container at once."""
+
+from __future__ import annotations
+
+import json
+import os
+from dataclasses import dataclass, field
+from typing import Dict, Mapping, Optional, Tuple
+
+from .commands import Taken
+from .configs import parse_text
+from .cpus import Cpus, print_list
+from .script import Refused, read_text, replace_file
+
+RECORD_BYTES = 64 << 20
+Whole = Tuple[Optional[str], Optional[str]]  # all CPUs and all nodes, as lists
+
+
+def write_file(path: str, text: str) -> Optional[str]:
+    """One write of the system; why it was refused, or nothing."""
+    try:
+        file = os.open(path, os.O_WRONLY | os.O_TRUNC)
+        try:
+            os.write(file, f"{text}\n".encode())
+        finally:
+            os.close(file)
+    except OSError as why:
+        return f"{path}: {why.strerror}"
+    return None
+
+
+@dataclass
+class Record:
+    """The file: what was taken of each group that is there as it was then, and of those in whose place another group is by now."""
+
+    path: str
+    whole: Whole = (None, None)
+    groups: Dict[str, Taken] = field(default_factory=dict)
+    renewed: Dict[str, Taken] = field(default_factory=dict)
+
+    def save(self, groups: Mapping[str, Taken]) -> None:
+        entries = {path: [taken.inode, taken.cpus, taken.nodes, taken.system] for path, taken in groups.items()}
+        replace_file(self.path, json.dumps({"all": list(self.whole), "groups": entries}))
+
+
+def read_record(work: str) -> Record:
+    """What an agent before has kept; nothing where that is no such record."""
+    record = Record(os.path.join(work, "taken.json"))
+    try:
+        found = parse_text(read_text(record.path, RECORD_BYTES), record.path)
+    except Refused:
+        return record
+    record.whole = whole_of(found.get("all"))
+    groups = found.get("groups")
+    for path, entry in groups.items() if isinstance(groups, dict) else []:
+        taken, inode = taken_of(entry), inode_of(path)
+        if taken and inode == taken.inode:
+            record.groups[path] = taken
+        elif taken and inode:
+            record.renewed[path] = taken
+    return record
+
+
+def whole_of(found: object) -> Whole:
+    if isinstance(found, list) and len(found) == 2 and all(isinstance(text, str) for text in found):
+        return found[0], found[1]
+    return None, None
+
+
+def taken_of(entry: object) -> Optional[Taken]:
+    if not isinstance(entry, list) or len(entry) != 4:
+        return None
+    inode, cpus, nodes, system = entry
+    texts = all(text is None or isinstance(text, str) for text in (cpus, nodes))
+    return Taken(inode, cpus, nodes, bool(system)) if isinstance(inode, int) and texts else None
+
+
+def inode_of(path: str) -> Optional[int]:
+    try:
+        return os.stat(path).st_ino
+    except (OSError, ValueError):
+        return None
+
+
+def whole_machine(cpus: Cpus, nodes: Cpus) -> Whole:
+    return print_list(cpus), print_list(nodes)

@@ -1,0 +1,163 @@
+"""Tries what the agent decides, without a process: whatever comes in whatever order over a plain model of the kernel, of a watched folder and
+of numarun. `decisions.py [CASES]`. Containers come, go and come back, configs flip, break and can't be had, CPUs flap, writes fail, the folder
+is away, others write, all of it also between any two commands; and the agent is killed at any of them.
+
+- No container with a process is given up, and nobody's processes are ended.
+- Who requests CPUs without a reserved one has them for itself, after each write.
+- Once all is well, who can be served is served within some looks, so that the pool keeps what is left to it, and then nothing more is said or
+  written.
+- Once all have gone, nothing of them is left."""
+
+from __future__ import annotations
+
+import json
+import os
+import random
+import sys
+import tempfile
+from collections import Counter
+from typing import Optional
+
+from trial import check, end
+
+try:
+    import hypothesis
+except ImportError:  # Debian's, where another Python comes first
+    if sys.executable != "/usr/bin/python3" and os.path.exists("/usr/lib/python3/dist-packages/hypothesis"):
+        os.execv("/usr/bin/python3", ["/usr/bin/python3", "-B", *sys.argv])
+    raise
+from hypothesis import strategies
+from model import RESERVED, Agent, Choices, Killed, World
+from numarun_host.ledger import CONTAINER_TOPICS, State
+from numarun_host.machine import Machine
+
+CASES = int(sys.argv[1]) if len(sys.argv) > 1 else 10_000
+SHORT = CASES * 9 // 10  # so many are made by hypothesis, which makes a case that fails as short as it can
+SEED = 20261128
+LOOKS = 40  # in which who can be served is served: pauses of what failed have doubled before
+
+
+def machine() -> Machine:
+    with tempfile.NamedTemporaryFile("w", suffix=".json") as file:
+        json.dump({"nodes": ["0-7"], "distances": [[10]], "reserved": "0"}, file)
+        file.flush()
+        return Machine(file.name)
+
+
+MACHINE = machine()
+
+
+def troubled(world: World) -> Agent:
+    """An agent, or one after another, as long as something happens."""
+    agent = Agent(world)
+    while world.choices.are_left:
+        for _ in range(world.choices.below(3)):
+            world.happen()
+        try:
+            agent.look(troubled=True)
+        except Killed:
+            agent = Agent(world)
+    return agent
+
+
+def settled(agent: Agent) -> None:
+    """Behind all trouble: who can be served is served, and it is quiet then."""
+    world = agent.world
+    world.settle()
+    for _ in range(LOOKS):
+        world.now += 100
+        agent.look(troubled=False)
+    waiting = [name for name, container in agent.ledger.containers.items() if container.state is State.WAITING]
+    taken = frozenset[int]().union(*(row.cpus for row in (agent.program.rows.values() if agent.program else ()) if row.count is not None))
+    free = len(world.present - RESERVED - taken)
+    free = min(free, len(world.present - taken) - world.pool_least)
+    for name in waiting:
+        demand = agent.ledger.containers[name].demand
+        named = demand.config["linux"]["resources"]["cpu"].get("cpus")  # type: ignore[index]
+        if not named and demand.count is not None and demand.count <= free:
+            world.wrong.append(f"{name} waits for {demand.count} CPUs, and {free} may be had")
+    told = sorted(name for name in world.bundles if name not in agent.ledger.containers)
+    if told:
+        world.wrong.append(f"{told} are not told of: {agent.ledger.problems}")
+    for name, row in agent.program.rows.items() if agent.program else ():
+        if row.count is not None and len(world.places[world.path(name)].cpus - RESERVED) != row.count:
+            world.wrong.append(f"{name} asks for {row.count} CPUs, and has {sorted(world.places[world.path(name)].cpus)}")
+    before = {path: place.cpus for path, place in world.places.items()}
+    for _ in range(3):
+        world.now += 100
+        agent.look(troubled=False)
+        if agent.said:
+            world.wrong.append(f"said where nothing happens: {agent.said}")
+    if before != {path: place.cpus for path, place in world.places.items()}:
+        world.wrong.append("written where nothing happens")
+
+
+def refused(agent: Agent) -> None:
+    """Where no write is taken any more, nothing is said again and again: of a plan once, and once of a container."""
+    world, said = agent.world, Counter[str]()
+    world.read_only = 1 << 30
+    world.flap()
+    world.come()
+    for _ in range(6):
+        world.now += 100
+        agent.look(troubled=False)
+        said.update(agent.said)
+    if any(count > 2 for count in said.values()):
+        world.wrong.append(f"said again and again: {said.most_common(1)[0]}")
+    world.settle()
+
+
+def left(agent: Agent) -> None:
+    """Once all have gone, nothing of them is left."""
+    world = agent.world
+    world.bundles.clear()
+    world.places.clear()
+    for _ in range(4):
+        world.now += 100
+        agent.look(troubled=False)
+    ledger = agent.ledger
+    kept = [ledger.containers, ledger.refused, ledger.blocking, ledger.taken, ledger.before, ledger.renewed, world.links, world.copies, world.taken,
+            [key for key in ledger.problems if key[0] in CONTAINER_TOPICS], [key for key in ledger.pauses if key[0] == "container"], ledger.unsaid]
+    if any(kept):
+        world.wrong.append(f"left: {kept}")
+
+
+def fault_of(case: bytes) -> Optional[str]:
+    """What goes wrong in a case, or nothing."""
+    world = World(MACHINE, Choices(case))
+    world.pool_least = (0, 0, 2, 3)[world.choices.below(4)]
+    agent = troubled(world)
+    settled(agent)
+    refused(agent)
+    left(agent)
+    return world.wrong[0] if world.wrong else None
+
+
+@hypothesis.seed(SEED)
+@hypothesis.settings(max_examples=max(SHORT, 1), deadline=None, database=None, suppress_health_check=list(hypothesis.HealthCheck))
+@hypothesis.given(strategies.binary(max_size=400))
+def whatever_comes(case: bytes) -> None:
+    fault = fault_of(case)
+    assert fault is None, (fault, case)
+
+
+def long_days(count: int) -> Optional[str]:
+    """Longer cases than hypothesis makes, whatever they are; the first fault, with its case."""
+    chance = random.Random(SEED)
+    for _ in range(count):
+        case = bytes(chance.randrange(256) for _ in range(chance.choice((100, 300, 1000))))
+        fault = fault_of(case)
+        if fault:
+            return f"{fault}: {case!r}"
+    return None
+
+
+if __name__ == "__main__":
+    try:
+        whatever_comes()
+        fault = long_days(CASES - SHORT) or ""
+    except AssertionError as why:
+        fault = str(why)
+    check("what is decided", fault, "")
+    print(f"what is decided: {CASES} cases, {CASES - SHORT} of them long, seed {SEED}")
+    end("numarun-agent's decisions")

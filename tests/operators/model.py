@@ -1,0 +1,477 @@
+"""A plain model of what the agent decides over: containers in a watched folder with their groups, the kernel's list of online CPUs, numarun,
+and an agent that carries out what is decided. It has no file, no process and no clock, and is written from docs/formats.md and the kernel's
+page of cgroup v2, not from the agent. What happens is drawn from bytes: where these have run out, nothing happens any more."""
+
+from __future__ import annotations
+
+import dataclasses
+from dataclasses import dataclass, field
+from typing import Dict, FrozenSet, Iterator, List, Optional, Set, Tuple, Union
+
+from numarun_host.commands import (Answer, Ask, CloseTrial, Command, Drop, Level, Link, OpenTrial, SaveTaken, Say, Start, Taken, Tell, Unlink,
+                                   Verb, Write)
+from numarun_host.decide import decide
+from numarun_host.ledger import Ledger, Settings
+from numarun_host.machine import Machine
+from numarun_host.seen import Found, Group, Look, Missing, NoGroup, Online, Told
+
+Cpus = FrozenSet[int]
+ROOT, RESERVED = "/tree", frozenset({0})
+NAMES = ("a", "b", "c", "d", "e", "s", "t")
+NO_WRITE = "refused E50 KernelFault"
+
+
+def read(text: str) -> Cpus:
+    ends = [item.split("-") for item in text.split(",") if item and item != "-"]
+    return frozenset(cpu for end in ends for cpu in range(int(end[0]), int(end[-1]) + 1))
+
+
+def shown(cpus: Cpus) -> str:
+    return ",".join(map(str, sorted(cpus))) or "-"
+
+
+class Choices:
+    """What is chosen, byte by byte; the first of all where no byte is left."""
+
+    def __init__(self, bytes: bytes) -> None:
+        self.bytes, self.at = bytes, 0
+
+    @property
+    def are_left(self) -> bool:
+        return self.at < len(self.bytes)
+
+    def below(self, count: int) -> int:
+        self.at += 1
+        return self.bytes[self.at - 1] % count if self.at <= len(self.bytes) else 0
+
+
+class Killed(Exception):
+    """The agent is killed, or its program, so that it ends."""
+
+
+@dataclass
+class Place:
+    """A group of the kernel's."""
+
+    inode: int
+    cpus: Cpus = frozenset()
+    populated: bool = True
+    shared: bool = False  # whether it was written, or told of, last as one that asks for none of its own, so that nobody keeps others off
+
+
+@dataclass(frozen=True)
+class Bundle:
+    """What a watched folder has of a container: a config, or one that is no JSON, or none; `turn` tells it from those before."""
+
+    config: Optional[Dict[str, object]]
+    turn: int
+
+
+@dataclass
+class Row:
+    """A container as numarun has it."""
+
+    count: Optional[int]
+    allowed: Cpus
+    cpus: Cpus
+
+
+def config_of(count: int, cpus: str = "", **annotations: str) -> Dict[str, object]:
+    section: Dict[str, object] = {"quota": count * 100000, "period": 100000} if count else {}
+    if cpus:
+        section["cpus"] = cpus
+    return {"ociVersion": "1.0.2", "root": {"path": "r"}, "annotations": dict(annotations), "linux": {"resources": {"cpu": section}}}
+
+
+class Program:
+    """numarun: what it answers, and what it writes by its links, where it has a tree."""
+
+    def __init__(self, world: World, tree: bool, reserved: Cpus, offline: Cpus) -> None:
+        self.world, self.tree, self.reserved = world, tree, reserved
+        self.online = world.present - offline
+        self.rows: Dict[str, Row] = {}
+        self.targets: Optional[Dict[str, Cpus]] = None
+
+    def write(self, name: str, cpus: Cpus) -> bool:
+        """One write, and whether the kernel took it; into a group that is gone it counts as done."""
+        if self.tree and not self.world.write(self.world.links.get(name), cpus, self.rows[name].count is None):
+            return False
+        self.rows[name].cpus = cpus
+        return True
+
+    def demand(self, config: object) -> Union[str, Row]:
+        """What a config asks for, or why it is refused."""
+        assert isinstance(config, dict)
+        if "root" not in config:
+            return "refused E58 Missing root"
+        section = config.get("linux", {}).get("resources", {}).get("cpu", {})
+        named = read(section.get("cpus", ""))
+        if named - self.world.present:
+            return f"refused E63 NoSuchCpu {min(named - self.world.present)}"
+        allowed = (named or self.world.present) - self.reserved
+        quota = section.get("quota", 0)
+        count = -(-quota // section.get("period", 100000)) if quota else len(allowed) if named else None
+        if count is not None and not 0 < count <= len(allowed):
+            return "refused E66 QuotaTooLarge"
+        return Row(count, allowed, frozenset())
+
+    def tell(self, command: Tell) -> str:
+        name, row = command.name, self.demand(command.config)
+        if self.targets is not None:
+            return "refused E90 Busy"
+        if (command.verb is Verb.UPDATE) == (name not in self.rows):
+            return "refused E92 Exists"
+        if isinstance(row, str):
+            return row
+        if command.verb is Verb.UPDATE:
+            return self.update(name, row)
+        cpus = command.cpus if command.verb is Verb.ADOPT else self.reserved
+        for cpu in sorted(cpus - self.reserved):
+            others = [other for other in self.rows.values() if cpu in other.cpus and (other.count is not None or row.count is not None)]
+            if others or cpu not in self.world.present:
+                return f"refused E104 NotFree {cpu}"
+        self.rows[name] = row
+        if not self.write(name, cpus):
+            del self.rows[name]
+            return NO_WRITE
+        return "pid 2"
+
+    def mark(self, name: str) -> None:
+        place = self.world.places.get(self.world.links.get(name, "")) if self.tree else None
+        if place:
+            place.shared = self.rows[name].count is None
+
+    def update(self, name: str, row: Row) -> str:
+        before = self.rows[name]
+        if row.count is not None and before.count is None and before.cpus != self.reserved and not self.write(name, self.reserved):
+            return NO_WRITE
+        self.rows[name] = dataclasses.replace(row, cpus=self.rows[name].cpus)
+        self.mark(name)
+        return "ok"
+
+    def ask(self, line: str) -> Tuple[str, ...]:
+        kind, *words = line.split(" ")
+        if kind in ("offline", "online"):
+            if int(words[0]) in self.reserved:
+                return ("refused E51 Reserved",)
+            self.online = self.online - {int(words[0])} if kind == "offline" else self.online | {int(words[0])}
+        elif kind == "kill":
+            self.world.end_processes(self.world.links.get(words[0]) if self.tree else None)
+        elif kind == "delete":
+            del self.rows[words[0]]
+        elif kind == "sets":
+            has = shown(self.rows[words[0]].cpus)
+            return (f"cpus {has} effective {has} mems 0 effective 0",)
+        elif kind in ("begin", "rebalance"):
+            return self.begin(kind == "begin")
+        elif kind == "step":
+            return (self.step(),)
+        return ("ok",)
+
+    def begin(self, opens: bool) -> Tuple[str, ...]:
+        if self.targets is not None:
+            return ("refused E90 Busy",)
+        holds, short = self.plan()
+        if short:
+            allowed = frozenset[int]().union(*(self.rows[name].allowed & self.online for name in short))
+            head = f"short demand {sum(self.rows[name].count or 0 for name in short)} allowed {shown(allowed)}"
+            return (head, *(f"member {name}" for name in short), "end")
+        pool = self.online.difference(*holds.values())
+        self.targets = {name: holds.get(name, pool) for name in self.rows}
+        if not opens:
+            for name, target in self.targets.items():
+                self.rows[name].cpus = target
+            self.targets = None
+        return ("plan total 0", *(f"hold {name} {shown(cpus)}" for name, cpus in holds.items()), f"pool {shown(pool)}", "end")
+
+    def plan(self) -> Tuple[Dict[str, Cpus], List[str]]:
+        """A plan in which each keeps what it may, or those who are short (augmenting paths, and Hall's condition)."""
+        holder: Dict[int, str] = {}
+        asking = [name for name, row in self.rows.items() if row.count is not None]
+        for name in asking:
+            for cpu in sorted(self.rows[name].cpus & self.rows[name].allowed & self.online)[:self.rows[name].count]:
+                holder.setdefault(cpu, name)
+        for name in asking:
+            for _ in range((self.rows[name].count or 0) - list(holder.values()).count(name)):
+                seen: Set[str] = set()
+                if not self.augment(name, holder, seen):
+                    return {}, [other for other in asking if other in seen]
+        return {name: frozenset(cpu for cpu, has in holder.items() if has == name) for name in asking}, []
+
+    def augment(self, name: str, holder: Dict[int, str], seen: Set[str]) -> bool:
+        seen.add(name)
+        may = sorted(self.rows[name].allowed & self.online)
+        for cpu in may:
+            if cpu not in holder:
+                holder[cpu] = name
+                return True
+        for cpu in may:
+            other = holder[cpu]
+            if other not in seen and self.augment(other, holder, seen):
+                holder[cpu] = name
+                return True
+        return False
+
+    def writes(self) -> Iterator[Tuple[str, Cpus]]:
+        """What is due: first each gives back, then each gets."""
+        assert self.targets is not None
+        for name, target in self.targets.items():
+            kept = self.rows[name].cpus & (target | self.reserved) or self.reserved
+            if self.rows[name].cpus != kept:
+                yield name, kept
+        for name, target in self.targets.items():
+            if self.rows[name].cpus != target:
+                yield name, target
+
+    def step(self) -> str:
+        if self.targets is None:
+            return "refused E100 NoHandover"
+        due = next(self.writes(), None)
+        if due is None:
+            self.targets = None
+            return "done"
+        if not self.write(*due):
+            self.targets = None
+            return NO_WRITE
+        return "more"
+
+
+@dataclass
+class World:
+    """The machine, and what goes wrong of what may not."""
+
+    machine: Machine
+    choices: Choices
+    pool_least: int = 0
+    present: Cpus = frozenset(range(8))
+    online: Cpus = frozenset(range(8))
+    places: Dict[str, Place] = field(default_factory=dict)
+    bundles: Dict[str, Bundle] = field(default_factory=dict)
+    links: Dict[str, str] = field(default_factory=dict)
+    taken: Dict[str, Taken] = field(default_factory=dict)
+    copies: Set[str] = field(default_factory=set)
+    hidden: bool = False
+    read_only: int = 0  # so many writes fail from now on
+    refused: Optional[str] = None  # where the last one failed
+    count: int = 0
+    now: float = 0.0
+    wrong: List[str] = field(default_factory=list)
+
+    # What the kernel does.
+
+    def write(self, path: Optional[str], cpus: Cpus, shared: bool = True) -> bool:
+        if self.read_only:
+            self.read_only, self.refused = self.read_only - 1, path
+            return False
+        if path in self.places:
+            self.check(path, cpus, shared)
+            self.places[path].cpus, self.places[path].shared = cpus, shared
+        return True
+
+    def end_processes(self, path: Optional[str]) -> None:
+        if path in self.places and self.places[path].populated:
+            self.wrong.append(f"the processes of {path} were ended")
+
+    def check(self, path: str, cpus: Cpus, shared: bool) -> None:
+        """What a write gives is nobody else's own, and what it gives as one's own is nobody else's at all. Who requests CPUs without a reserved
+        one has them as its own, unless it was written as one that is on the pool."""
+        given = cpus - self.places[path].cpus
+        for other, place in self.places.items():
+            own = not place.cpus & RESERVED and not place.shared
+            if other != path and place.populated and given & place.cpus and (own or not (shared or cpus & RESERVED)):
+                self.wrong.append(f"{path} is given {shown(given & place.cpus)}, which {other} has")
+
+    # What happens.
+
+    def happen(self) -> None:
+        """One thing of all that happens."""
+        events = (self.rest, self.come, self.go, self.configure, self.flap, self.fail, self.hide, self.come_anew, self.damage, self.drift)
+        events[self.choices.below(len(events))]()
+
+    def rest(self) -> None:
+        self.now += 1
+
+    def chosen(self) -> str:
+        return NAMES[self.choices.below(len(NAMES))]
+
+    def config(self, name: str) -> Dict[str, object]:
+        """A config, most of them of few CPUs; some may take fewer, or are never moved, or name CPUs."""
+        if name in ("s", "t"):
+            return config_of(0)
+        way = self.choices.below(8)
+        count = 1 + way % 3
+        if way == 6:
+            return config_of(0, "1-2")
+        if way == 7:
+            return config_of(2, **{"numarun.least": "1"})
+        return config_of(count, **({"numarun.stay": "true"} if way == 5 else {}))
+
+    def path(self, name: str) -> str:
+        return f"{ROOT}/{name}"
+
+    def come(self) -> None:
+        name = self.chosen()
+        if name not in self.bundles:
+            self.count += 1
+            self.places[self.path(name)] = Place(self.count)
+            self.bundles[name] = Bundle(self.config(name), self.count)
+
+    def go(self) -> None:
+        name = self.chosen()
+        self.bundles.pop(name, None)
+        self.places.pop(self.path(name), None)
+
+    def come_anew(self) -> None:
+        """Another container under an id; its config may come later."""
+        name = self.chosen()
+        if name in self.bundles:
+            self.count += 1
+            self.places[self.path(name)] = Place(self.count)
+            self.bundles[name] = Bundle(self.config(name) if self.choices.below(2) else None, self.count)
+
+    def configure(self) -> None:
+        name = self.chosen()
+        if name in self.bundles:
+            self.count += 1
+            flips = config_of(self.choices.below(3)) if self.choices.below(2) else self.config(name)
+            self.bundles[name] = Bundle(flips, self.count)
+
+    def damage(self) -> None:
+        """A config that is none, or can't be had."""
+        name = self.chosen()
+        if name in self.bundles:
+            self.count += 1
+            self.bundles[name] = Bundle(None if self.choices.below(2) else config_of(0, "90"), self.count)
+
+    def flap(self) -> None:
+        cpu = 1 + self.choices.below(7)
+        self.online = self.online ^ {cpu}
+
+    def fail(self) -> None:
+        self.read_only = 1 + self.choices.below(3)
+
+    def hide(self) -> None:
+        self.hidden = not self.hidden
+
+    def drift(self) -> None:
+        """Somebody else's write, of CPUs that are nobody's."""
+        place = self.places.get(self.path(self.chosen()))
+        if place and place.cpus:
+            place.cpus = RESERVED
+
+    def settle(self) -> None:
+        """All that went wrong is right again."""
+        self.hidden, self.read_only, self.online = False, 0, self.present
+        for name, bundle in list(self.bundles.items()):
+            if bundle.config is None or bundle.config == config_of(0, "90"):
+                self.count += 1
+                self.bundles[name] = Bundle(config_of(1) if name not in ("s", "t") else config_of(0), self.count)
+
+    # What a look finds.
+
+    def look(self, ledger: Ledger) -> Look:
+        self.now += 0.3
+        told = {} if self.hidden else {name: self.found(name, bundle) for name, bundle in self.bundles.items()}
+        paths = {container.seen.group.path for container in ledger.containers.values()} | ledger.taken.keys() | ledger.renewed.keys()
+        paths |= {path for path, _ in ledger.before.values() if path} | {one.group.path for one in told.values() if isinstance(one, Found)}
+        return Look(self.now, told, {path: self.group(path) for path in paths}, Online(self.online))
+
+    def found(self, name: str, bundle: Bundle) -> Union[Found, Missing]:
+        told, group = Told(f"/g/{name}", f"/g/{name}"), self.group(self.path(name))
+        if bundle.config is None:
+            return Missing(told, "not JSON", True)
+        if isinstance(group, NoGroup):
+            return Missing(told, group.why)
+        return Found(told, (told, bundle.turn), bundle.config, group, bundle.turn)
+
+    def group(self, path: str) -> Union[Group, NoGroup]:
+        place = self.places.get(path)
+        if place is None:
+            return NoGroup(f"{path}: no such group")
+        return Group(path, place.inode, place.cpus, frozenset({0}), None, None, place.populated, (shown(place.cpus), "0"))
+
+
+class Agent:
+    """An agent over the world. Before some of what it does something happens, and at some of it it is killed."""
+
+    def __init__(self, world: World) -> None:
+        self.world = world
+        taken, renewed = {}, {}
+        for path, entry in world.taken.items():
+            place = world.places.get(path)
+            if place and place.inode == entry.inode:
+                taken[path] = entry
+            elif place:
+                renewed[path] = entry
+        before: Dict[str, Tuple[Optional[str], Optional[bool]]] = {name: (path, None) for name, path in world.links.items()}
+        world.links.clear()
+        world.copies.clear()
+        settings = Settings(world.machine, "", ROOT, homes=False, pool_least=world.pool_least, pause=1.0)
+        self.ledger = Ledger(settings, frozenset({0}), taken=taken, renewed=renewed, before=before)
+        self.program: Optional[Program] = None
+        self.trial: Optional[Program] = None
+        self.said: List[str] = []  # in the last look
+
+    def look(self, troubled: bool) -> None:
+        self.said = []
+        steps = decide(self.ledger, self.world.look(self.ledger))
+        try:
+            command = next(steps)
+            while True:
+                if troubled:
+                    self.trouble()
+                command = steps.send(self.do(command))
+        except StopIteration as end:
+            self.ledger = end.value
+
+    def trouble(self) -> None:
+        draw = self.world.choices.below(64)
+        if draw == 1:
+            raise Killed()
+        if draw > 56:
+            self.world.happen()
+
+    def do(self, command: Command) -> Answer:
+        world = self.world
+        if isinstance(command, Start):
+            self.program = Program(world, True, command.reserved, command.offline)
+        elif isinstance(command, OpenTrial):
+            assert self.program
+            self.trial = Program(world, False, self.program.reserved, frozenset())
+        elif isinstance(command, CloseTrial):
+            self.trial = None
+        elif isinstance(command, (Ask, Tell)):
+            return self.answer(command)
+        elif isinstance(command, Link):
+            world.links[command.name] = command.path
+        elif isinstance(command, Unlink):
+            world.links.pop(command.name, None)
+        elif isinstance(command, Drop):
+            world.copies.discard(command.name)
+        elif isinstance(command, SaveTaken):
+            world.taken = dict(command.groups)
+        elif isinstance(command, Write):
+            return Answer(why=None if world.write(command.path, read(command.text)) else f"{command.path}: Read-only file system")
+        elif isinstance(command, Say):
+            self.hear(command)
+        return Answer()
+
+    def answer(self, command: Union[Ask, Tell]) -> Answer:
+        program = self.trial if command.trial else self.program
+        assert program
+        if isinstance(command, Ask):
+            lines = program.ask(command.line)
+        else:
+            self.world.copies.add(command.name)
+            lines = (program.tell(command),)
+        return Answer(lines, (f"{self.world.refused}: Read-only file system",) if lines[0] == NO_WRITE else ())
+
+    def hear(self, command: Say) -> None:
+        if command.level is Level.WARNING:
+            self.said.append(command.line)
+        kind, _, name = command.line.partition(" ")
+        container = self.ledger.containers.get(name)
+        if kind == "ended" and container:
+            place = self.world.places.get(container.seen.group.path)
+            if place and place.populated and place.inode == container.seen.group.inode:
+                self.world.wrong.append(f"{name} has a process, and was given up")
