@@ -48,9 +48,11 @@ pub data Direct (d : Directed) (least : Least) (k : KernelState) : Option Write 
       → find (may_take k d.targets.reserved d.targets.entries) d.targets.entries ≡ None → Direct d least k None
 
 module _ (d : Directed) (least : Least) (k : KernelState) where
+  -- the entries, and the reserved CPUs
   abbrev pub entries : List Entry
   entries = d.targets.entries
 
+  -- the reserved CPUs
   abbrev pub reserved : Ids
   reserved = d.targets.reserved
 
@@ -96,9 +98,11 @@ module _ (d : Directed) (valid : IsHandover d.targets) (least : Least) (gives : 
   some_if_meets s t some = bigger_some (set.intersection s t) s (λ q m. (in_meet s t q m).0) some
 
   module _ (e : Entry) where
+    -- what it has on its way
     abbrev pub its_way : Ids
     its_way = way k d.targets.reserved d.targets.entries e
 
+    -- its places
     abbrev pub its_places : Ids
     its_places = places k d.targets.reserved d.targets.entries (allowed_of d e) e
 

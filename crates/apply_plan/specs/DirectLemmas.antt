@@ -50,6 +50,7 @@ none_own reserved cpus off = is_subset-contains cpus reserved (not_true _ off)
 pub own_none : (reserved cpus : Ids) → ((cpu : ℕ) → set.contains cpus cpu ≡ true → set.contains reserved cpu ≡ true) → has_own reserved cpus ≡ false
 own_none reserved cpus f = ap not (contains-is_subset cpus reserved f)
 
+-- 1 where a test passes, and else 0
 abbrev pub num : Bool → ℕ
 num b = cond b 1 0
 
@@ -234,9 +235,11 @@ module _ (old new : KernelState) (h : Targets) (valid : IsHandover h) (e : Entry
 
   -- what is written is nothing that a rival holds
   module _ (some : is_empty cpus ≡ false) (free : are_free old h.reserved h.entries e cpus ≡ true) where
+    -- what is known of two entries: their groups are two, and they are apart
     abbrev pub Known : Entry → Entry → Type 0
     Known a b = HaveOtherGroups a b × ApartAs old h.reserved a b
 
+    -- what the entry gets anew
     abbrev pub gained : Ids
     gained = set.difference cpus (held old e)
 

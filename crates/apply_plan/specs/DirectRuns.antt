@@ -27,6 +27,7 @@ pub data DirectEvent : Type 0 where
   Missed : DirectEvent
   Called : Call → Result Reply (OrMemory KernelFault) → DirectEvent
 
+-- what an event leaves of the kernel
 abbrev pub HappensDirectly : Directed → Least → KernelState → DirectEvent → KernelState → Type 0
 HappensDirectly d least old (Stepped r) new = StepsDirectly d least old r new
 HappensDirectly d least old (Made w) new = Makes d old w × (new ≡ written old (Some w))

@@ -27,9 +27,11 @@ module _ (k : KernelState) (reserved : Ids) (entries : List Entry) where
   abbrev pub is_new : Entry → Bool
   is_new e = e.pinned && (not (has_own reserved (held k e)) && goes e)
 
+  -- one that lets go
   abbrev pub is_mover : Entry → Bool
   is_mover e = lets_go k reserved e && goes e
 
+  -- a pinned one
   abbrev pub is_grower : Entry → Bool
   is_grower e = e.pinned && goes e
 
@@ -37,6 +39,7 @@ module _ (k : KernelState) (reserved : Ids) (entries : List Entry) where
   abbrev pub must_yield : Entry → Bool
   must_yield e = blocks k reserved entries e && in_ring k reserved entries e
 
+  -- a shared one that must yield
   abbrev pub shares : Entry → Bool
   shares e = not e.pinned && must_yield e
 
@@ -54,6 +57,7 @@ module _ (k : KernelState) (reserved : Ids) (entries : List Entry) where
   lacks e = min (set.len (held k e)) (set.len e.target) - set.len (way k reserved entries e)
 
   module _ (allowed : Entry → Ids) where
+    -- it has a place
     abbrev pub has_place : Entry → Bool
     has_place e = not (is_empty (places k reserved entries (allowed e) e))
 

@@ -9,10 +9,12 @@ use Rattle.cpuset_tree.specs.Groups.{same_group}
 use Rattle.apply_plan.specs.declared.entry.Entry.{Entry}
 use Rattle.apply_plan.specs.Targets.{Targets, targets_code, IsHandover}
 
+-- containers with their targets, the reserved CPUs, and what each container is allowed
 pub record Directed : Type 0 where
   pub targets : Targets
   pub allowed : List Ids
 
+-- a direct hand-over is stored as the pair of its parts
 abbrev pub directed_code : Coded Directed
 directed_code =
     code_by (Targets × List Ids) (coded× targets_code (coded_list ids_code)) (λ d. (d.targets, d.allowed)) (λ p. record { targets = p.0; allowed = p.1 }) (λ _. refl)
@@ -23,6 +25,7 @@ allowed_in [] sets e = set.empty
 allowed_in (d ∷ later) [] e = set.empty
 allowed_in (d ∷ later) (s ∷ sets) e = cond (same_group d.group e.group) s (allowed_in later sets e)
 
+-- the CPUs that a container of a direct hand-over is allowed
 abbrev pub allowed_of : Directed → Entry → Ids
 allowed_of d e = allowed_in d.targets.entries d.allowed e
 

@@ -34,6 +34,7 @@ module _ (k : KernelState) (reserved : Ids) (entries : List Entry) (e : Entry) w
   abbrev pub counts : Entry → Bool
   counts d = cond e.pinned (is_alive k.table d.pid) (d.pinned && is_alive k.table d.pid)
 
+  -- who may ask of e
   abbrev pub might_ask : Entry → Bool
   might_ask d = cond e.pinned (d.pinned && lets_go k reserved d) (d.pinned && must_move k d)
 

@@ -10,16 +10,19 @@ use Rattle.apply_plan.specs.DueWrite.{held, must_move}
 use Rattle.apply_plan.specs.DirectWords.{lets_go, all_of_those}
 
 module _ (k : KernelState) (reserved : Ids) (entries : List Entry) where
+  -- what live containers hold
   abbrev pub all_held : Ids
   all_held = all_of_those (λ d. is_alive k.table d.pid) (held k) entries
 
+  -- what pinned live ones hold
   abbrev pub pinned_held : Ids
   pinned_held = all_of_those (λ d. d.pinned && is_alive k.table d.pid) (held k) entries
 
-  -- the targets of the pinned ones that let go, and of those that must move
+  -- the targets of the pinned ones that let go
   abbrev pub letting : Ids
   letting = all_of_those (λ d. d.pinned && lets_go k reserved d) (λ d. d.target) entries
 
+  -- the targets of the pinned ones that must move
   abbrev pub moving : Ids
   moving = all_of_those (λ d. d.pinned && must_move k d) (λ d. d.target) entries
 
@@ -31,6 +34,7 @@ module _ (k : KernelState) (reserved : Ids) (entries : List Entry) where
   abbrev pub asks_together : Entry → Ids
   asks_together e = set.difference (cond e.pinned letting moving) e.target
 
+  -- the sets of an overview are these
   pub record IsOverview (o : Overview) : Type 0 where
     pub held : o.held ≡ all_held
     pub pinned : o.pinned ≡ pinned_held

@@ -73,6 +73,7 @@ no_more_than (y ∷ ys) xs apart among = by (drops y xs)
       by (inl none) rest = absurd (false≢true (sym (ap not (same_group_itself y.group)) ∙ among.0 (λ x. not (same_group y.group x.group)) none))
 
 module _ (h : Targets) (valid : IsHandover h) (k : KernelState) where
+  -- the one that it waits for
   abbrev pub its_next : Entry → Option Entry
   its_next e = next k h.reserved h.entries e
 
@@ -215,6 +216,7 @@ module _ (h : Targets) (valid : IsHandover h) (k : KernelState) where
 
   -- where each that lets go waits for one, some stand in a ring
   module _ (waits : (e : Entry) → Going e → (d : Entry) × (its_next e ≡ Some d)) where
+    -- one of those that go stands in a ring
     abbrev pub HasRing : Type 0
     HasRing = (x : Entry) × (Going x × (in_ring k h.reserved h.entries x ≡ true))
 

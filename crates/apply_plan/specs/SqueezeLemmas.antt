@@ -127,6 +127,7 @@ module _ (d : Directed) (valid : IsHandover d.targets) (least : Least) (gives : 
 module _ (d : Directed) (valid : IsHandover d.targets) (least : Least) (gives : Serves d least) (old : KernelState) (placed : ArePlaced old d.targets.entries) where
   -- whoever is squeezed by a write is the one that was written
   module _ (test : Entry → Bool) (e : Entry) (cpus : Ids) (found : find test d.targets.entries ≡ Some e) where
+    -- the kernel after the write
     abbrev pub after : KernelState
     after = written old (Some (write_of e cpus))
 

@@ -26,9 +26,11 @@ module _ (k : KernelState) (reserved : Ids) (entries : List Entry) where
   Guards rings =
       AllByRecursion (λ e. e.pinned ≡ true → (set.is_subset (spare k reserved entries) e.target && rings) ≡ (set.is_subset (spare k reserved entries) e.target && rings_stand k reserved entries)) entries
 
+  -- whether it takes its target at once
   abbrev pub goes_by : Bool → Entry → Bool
   goes_by rings e = may_take k reserved entries e && not (not (lets_go k reserved e) && (set.is_subset (spare k reserved entries) e.target && rings))
 
+  -- whether it is its turn to take its target
   abbrev pub takes_by : Bool → Taking → Entry → Bool
   takes_by rings New e = e.pinned && (not (has_own reserved (held k e)) && goes_by rings e)
   takes_by rings LettingGo e = lets_go k reserved e && goes_by rings e
@@ -36,11 +38,13 @@ module _ (k : KernelState) (reserved : Ids) (entries : List Entry) where
   takes_by rings Any e = may_take k reserved entries e
 
   module _ (allowed : Entry → Ids) where
+    -- whether it is its turn to give way
     abbrev pub gives_by : Giving → Entry → Bool
     gives_by Sharing e = shares k reserved entries e
     gives_by Aside e = steps_aside k reserved entries allowed e
     gives_by Squeezed e = must_yield k reserved entries e
 
+    -- what it gets whose turn it is to give way
     abbrev pub gets_by : Least → Giving → Entry → Ids
     gets_by least Sharing e = shared_way k reserved entries e
     gets_by least Aside e = aside k reserved entries allowed least e

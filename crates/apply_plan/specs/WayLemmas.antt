@@ -77,6 +77,7 @@ module _ (h : Targets) (k : KernelState) (e : Entry) (allowed : Ids)
   -- some CPUs of its way, of the reserved ones and of its places
   module _ (cpus : Ids) (within : (q : ℕ) → set.contains cpus q ≡ true
       → (set.contains (way k h.reserved h.entries e) q ≡ true) ⊎ ((set.contains h.reserved q ≡ true) ⊎ (set.contains (places k h.reserved h.entries allowed e) q ≡ true))) where
+    -- what it gets anew
     abbrev pub gained : Ids
     gained = set.difference cpus (held k e)
 
