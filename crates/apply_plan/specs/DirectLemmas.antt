@@ -7,7 +7,7 @@ use Rattle.std.specs.Prelude.{cond, find, Option, Some, None, is_none, is_some}
 use Rattle.std.specs.List.{AllByRecursion, sum_by}
 use Rattle.std.specs.FinSet as set
 use Rattle.cpu_set.specs.Ids.{Ids, is_same, is_empty}
-use Rattle.cpu_set.specs.Pointwise.{is_subset-contains, contains-is_subset, contains-intersection, contains-difference, is_same_decides}
+use Rattle.cpu_set.specs.PointwiseLaws.{is_subset-contains, contains-is_subset, contains-intersection, contains-difference, is_same_decides}
 use Rattle.cpuset_tree.specs.Groups.{same_group, requested_cpus}
 use Rattle.cpuset_tree.specs.GroupLemmas.{same_group_sym, same_group_itself}
 use Rattle.proctable.specs.Processes.{is_alive}
@@ -19,7 +19,7 @@ use Rattle.apply_plan.specs.DueWrite.{held, must_move, written}
 use Rattle.apply_plan.specs.ListLemmas.{all_map, all_map2, pairs_both, find_none, none_found, find_passes, find_among, of_pairs_map, sum_le, all_of, sum_bounded}
 use Rattle.apply_plan.specs.WriteLemmas.{IsWrite, Left, MeetsNothing, ApartAs, apart_swap, targets_swap, by_test, all_left}
 use Rattle.apply_plan.specs.StepLemmas.{safe_after, is_same_itself}
-use Rattle.apply_plan.specs.KernelFacts.{is_write}
+use Rattle.apply_plan.specs.KernelFactLemmas.{is_write}
 use Rattle.apply_plan.specs.DirectWords.{has_own, holds_some, are_free, lets_go, asks, holds_up, blocks}
 use Rattle.apply_plan.specs.MayWrite.{GivesWay, MayWrite, write_of, waits_for, left_directly, EachLowers, FewLeft}
 

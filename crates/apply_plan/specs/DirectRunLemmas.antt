@@ -21,7 +21,7 @@ use Rattle.apply_plan.specs.Holders.{IsSafe}
 use Rattle.apply_plan.specs.Targets.{Targets, holders_of, IsPlaced}
 use Rattle.apply_plan.specs.DueWrite.{held, must_move, written}
 use Rattle.apply_plan.specs.ListLemmas.{all_map, all_map2, all_of, find_none, none_found, sum_le}
-use Rattle.apply_plan.specs.KernelFacts.{placed_alike, stands}
+use Rattle.apply_plan.specs.KernelFactLemmas.{placed_alike, stands}
 use Rattle.apply_plan.specs.WriteLemmas.{by_test}
 use Rattle.apply_plan.specs.Runs.{IsOpen}
 use Rattle.apply_plan.specs.EventLemmas.{IsCalm, calm, still_open}

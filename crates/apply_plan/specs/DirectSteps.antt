@@ -19,7 +19,7 @@ use Rattle.apply_plan.specs.DueWrite.{held, must_move, progress_of, written, Has
 use Rattle.apply_plan.specs.Leaves.{KeepsRest}
 use Rattle.apply_plan.specs.ListLemmas.{all_map, all_map2, find_among, find_none}
 use Rattle.apply_plan.specs.WriteLemmas.{holds_target, Left, all_left}
-use Rattle.apply_plan.specs.KernelFacts.{with_request, is_write}
+use Rattle.apply_plan.specs.KernelFactLemmas.{with_request, is_write}
 use Rattle.apply_plan.specs.HandoverLemmas.{write_keeps, keeps_itself, nothing_due}
 use Rattle.apply_plan.specs.DirectWords.{are_free}
 use Rattle.apply_plan.specs.MayWrite.{OnWay, MayWrite, left_directly}

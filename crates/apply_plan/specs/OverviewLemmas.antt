@@ -5,7 +5,7 @@ use Rattle.std.specs.Prelude.{cond, find, Option, Some, None, is_none, is_some}
 use Rattle.std.specs.List.{AllByRecursion}
 use Rattle.std.specs.FinSet as set
 use Rattle.cpu_set.specs.Ids.{Ids}
-use Rattle.cpu_set.specs.Pointwise.{same_members, contains-is_subset}
+use Rattle.cpu_set.specs.PointwiseLaws.{same_members, contains-is_subset}
 use Rattle.cpuset_tree.specs.Groups.{same_group, requested_cpus}
 use Rattle.cpuset_tree.specs.GroupLemmas.{same_group-equal}
 use Rattle.proctable.specs.Processes.{is_alive}

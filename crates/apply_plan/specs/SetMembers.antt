@@ -6,7 +6,7 @@ use Rattle.std.specs.Prelude.{◌⊎◌, cond}
 use Rattle.std.specs.List.{AllByRecursion}
 use Rattle.std.specs.FinSet as set
 use Rattle.cpu_set.specs.Ids.{Ids, is_empty}
-use Rattle.cpu_set.specs.Pointwise.{same_members, contains-empty, contains-union, contains-intersection, contains-difference}
+use Rattle.cpu_set.specs.PointwiseLaws.{same_members, contains-empty, contains-union, contains-intersection, contains-difference}
 use Rattle.cpu_set.specs.SetLaws.{is_empty-empty, is_empty-some}
 use Rattle.apply_plan.specs.declared.entry.Entry.{Entry}
 use Rattle.apply_plan.specs.ListLemmas.{all_map}

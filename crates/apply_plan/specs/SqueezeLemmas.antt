@@ -5,7 +5,7 @@ use Rattle.std.specs.Prelude.{find, Option, Some, None, is_none, is_some, Result
 use Rattle.std.specs.List.{AllByRecursion}
 use Rattle.std.specs.FinSet as set
 use Rattle.cpu_set.specs.Ids.{Ids, is_empty}
-use Rattle.cpu_set.specs.Pointwise.{is_same_decides}
+use Rattle.cpu_set.specs.PointwiseLaws.{is_same_decides}
 use Rattle.kernel_model.specs.declared.fault.KernelFault.{KernelFault}
 use Rattle.kernel_model.specs.KernelState.{KernelState, failed}
 use Rattle.apply_plan.specs.declared.entry.Entry.{Entry}
@@ -26,7 +26,7 @@ use Rattle.apply_plan.specs.SetMembers.{in_meet, union_left, union_right, no_mor
 use Rattle.apply_plan.specs.DirectCases as cases
 use Rattle.apply_plan.specs.DirectCases.{Direct, NoneGoes, direct_is, extra, extra_within, extra_some, of_spare}
 use Rattle.cpu_set.specs.SetLaws.{empty_of_none, is_empty-empty}
-use Rattle.apply_plan.specs.KernelFacts.{is_write}
+use Rattle.apply_plan.specs.KernelFactLemmas.{is_write}
 
 module _ (d : Directed) (valid : IsHandover d.targets) (least : Least) (gives : Serves d least) (k : KernelState) where
   -- where no target is free that is taken first, none that is pinned or lets go takes its own

@@ -3,7 +3,7 @@ use Rattle.std.specs.Prelude.{IfSome, cond}
 use Rattle.apply_plan.specs.declared.handover.Progress.TheVariants.{More, Done}
 use Rattle.apply_plan.specs.Targets.{IsPlaced}
 use Rattle.apply_plan.specs.DueWrite.{written}
-use Rattle.apply_plan.specs.KernelFacts.{made_is_placed}
+use Rattle.apply_plan.specs.KernelFactLemmas.{made_is_placed}
 use Rattle.apply_plan.specs.DirectSteps.{due_places, told}
 use Rattle.apply_plan.proofs.direct_handover.make_direct.Goals as goal
 

@@ -3,7 +3,7 @@ use Rattle.std.proofs.Common.{◌≡◌, ℕ, ◌&&◌, not, List, [], ◌∷◌
 use Rattle.std.specs.FinSet as set
 use Rattle.cpu_set.specs.Ids.{Ids}
 use Rattle.cpu_set.specs.ListedSets.{is_in, contains-listed, is_in-filter, intersection-listed, union-listed, is_subset-listed, len-listed}
-use Rattle.cpu_set.specs.Pointwise.{same_members, contains-difference}
+use Rattle.cpu_set.specs.PointwiseLaws.{same_members, contains-difference}
 use Rattle.apply_plan.specs.SetMembers.{union_none, none_union}
 use Rattle.apply_plan.proofs.laws.worked_directly.Goals as goal
 
