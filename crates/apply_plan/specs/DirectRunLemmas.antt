@@ -31,9 +31,9 @@ use Rattle.apply_plan.specs.MayWrite.{OnWay, waits_for, left_directly}
 use Rattle.apply_plan.specs.Directed.{Directed, allowed_of, Least, Serves}
 use Rattle.apply_plan.specs.OnWay.{AreOnWay}
 use Rattle.apply_plan.specs.DirectWrite.{due_directly, made_directly}
-use Rattle.apply_plan.specs.DirectCases.{Direct, direct_is, makes}
+use Rattle.apply_plan.specs.DirectCaseLemmas.{Direct, direct_is, makes}
 use Rattle.apply_plan.specs.DirectLemmas.{both, both_of, ask_parts, up_parts, num, le_cond}
-use Rattle.apply_plan.specs.DirectSteps.{made_places, made_safe, made_lowers, made_on_way, step_safe, step_lowers, step_on_way, step_makes}
+use Rattle.apply_plan.specs.DirectStepLemmas.{made_places, made_safe, made_lowers, made_on_way, step_safe, step_lowers, step_on_way, step_makes}
 use Rattle.apply_plan.specs.DirectRuns.{DirectEvent, Stepped, Made, Missed, Called, HappensDirectly, AllHappenDirectly, direct_writes_of, direct_writes_in, last_directly, StaysSafeDirectly, StaysOnWay, EndsDirectly}
 
 module _ (h : Targets) (old new : KernelState) (all : AllByRecursion (IsCalm old new) h.entries) where

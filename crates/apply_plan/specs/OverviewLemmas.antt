@@ -18,7 +18,7 @@ use Rattle.apply_plan.specs.WriteLemmas.{by_test}
 use Rattle.apply_plan.specs.DirectWords.{has_own, is_rival, holds_some, are_free, lets_go, asks, holds_up, blocks, all_of_those, taken, asked, spare, places, way}
 use Rattle.apply_plan.specs.Overviews.{all_held, pinned_held, letting, moving, others, asks_together}
 use Rattle.apply_plan.specs.DirectLemmas.{none_own, own_none, or_true}
-use Rattle.apply_plan.specs.SetMembers.{in_meet, in_minus, in_union, meet_has, minus_has, union_left, union_right, in_all, of_all, one_of_two}
+use Rattle.apply_plan.specs.SetMemberLaws.{in_meet, in_minus, in_union, meet_has, minus_has, union_left, union_right, in_all, of_all, one_of_two}
 
 pub same_answers : (x y : Bool) → (x ≡ true → y ≡ true) → (y ≡ true → x ≡ true) → x ≡ y
 same_answers true y f g = sym (f refl)

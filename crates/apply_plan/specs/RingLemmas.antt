@@ -18,7 +18,7 @@ use Rattle.apply_plan.specs.DirectWords.{has_own, is_rival, holds_some, are_free
 use Rattle.apply_plan.specs.Rings.{next, leads_to, in_ring, rings_stand}
 use Rattle.apply_plan.specs.DirectWrite.{is_mover, must_yield}
 use Rattle.apply_plan.specs.DirectLemmas.{both, both_of, none_own, own_none, lets_moves, or_true}
-use Rattle.apply_plan.specs.SetMembers.{in_meet, in_minus, meet_has, minus_has, no_more, one_of_two}
+use Rattle.apply_plan.specs.SetMemberLaws.{in_meet, in_minus, meet_has, minus_has, no_more, one_of_two}
 use Rattle.apply_plan.specs.WayLemmas.{apart_from_it}
 
 -- each test that all of a list pass, it passes

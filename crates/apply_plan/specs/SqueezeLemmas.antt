@@ -22,9 +22,9 @@ use Rattle.apply_plan.specs.MayWrite.{write_of}
 use Rattle.apply_plan.specs.DirectWrite.{goes, is_mover, is_grower, must_yield, shares, shared_way, has_room, has_place, steps_aside, aside, squeezed, due_directly, StepsDirectly}
 use Rattle.apply_plan.specs.Squeezes.{IsSqueezed, IsFull, IsStuck, SqueezesOnlyStuck}
 use Rattle.apply_plan.specs.DirectLemmas.{both_of, none_own, own_none, lets_moves}
-use Rattle.apply_plan.specs.SetMembers.{in_meet, union_left, union_right, no_more}
-use Rattle.apply_plan.specs.DirectCases as cases
-use Rattle.apply_plan.specs.DirectCases.{Direct, NoneGoes, direct_is, extra, extra_within, extra_some, of_spare}
+use Rattle.apply_plan.specs.SetMemberLaws.{in_meet, union_left, union_right, no_more}
+use Rattle.apply_plan.specs.DirectCaseLemmas as cases
+use Rattle.apply_plan.specs.DirectCaseLemmas.{Direct, NoneGoes, direct_is, extra, extra_within, extra_some, of_spare}
 use Rattle.cpu_set.specs.SetLaws.{empty_of_none, is_empty-empty}
 use Rattle.apply_plan.specs.KernelFactLemmas.{is_write}
 

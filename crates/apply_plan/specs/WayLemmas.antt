@@ -17,7 +17,7 @@ use Rattle.apply_plan.specs.WriteLemmas.{by_test, targets_swap}
 use Rattle.apply_plan.specs.DirectWords.{has_own, is_rival, holds_some, asks, blocks, taken, asked, spare, places, way, all_of_those}
 use Rattle.apply_plan.specs.MayWrite.{OnWay, GivesWay}
 use Rattle.apply_plan.specs.DirectLemmas.{both_of, own_none, ask_parts, found_pairs, or_true}
-use Rattle.apply_plan.specs.SetMembers.{in_meet, in_minus, in_union, minus_has, union_left, in_all, of_all}
+use Rattle.apply_plan.specs.SetMemberLaws.{in_meet, in_minus, in_union, minus_has, union_left, in_all, of_all}
 
 module _ (h : Targets) (valid : IsHandover h) (test : Entry → Bool) (e : Entry) (found : find test h.entries ≡ Some e) where
   -- outside the reserved CPUs its target meets no other's where one of the two is pinned

@@ -180,8 +180,8 @@ fn way_given<K: Kernel, C: Cores>(
     }
 }
 
-/// The write that is due where no target is taken at once: one gives way in a ring, or else one takes its target, which is
-/// a shared one that grows, for nobody lets go then.
+/// The write that is due where no target is taken at once: one gives way in a ring, or else one takes its target,
+/// which is a shared one that grows, for nobody lets go then.
 fn given_or_grown<K: Kernel, C: Cores>(
     kernel: &K,
     cores: &C,

@@ -2,7 +2,7 @@ ghost use Rattle.std.specs.Prelude.{◌≡◌, ◌+◌, ◌*◌, ◌≤◌, leng
 ghost use Rattle.kernel_model.specs.KernelState.{KernelState};
 ghost use Rattle.kernel_model.specs.Cases.{rise};
 ghost use Rattle.apply_plan.specs.Holders.{IsSafe};
-ghost use Rattle.apply_plan.specs.Targets.{Targets, holders_of, IsHandover, ArePlaced};
+ghost use Rattle.apply_plan.specs.Targets.{holders_of, ArePlaced};
 ghost use Rattle.apply_plan.specs.Leaves.{KeepsRest};
 ghost use Rattle.apply_plan.specs.DueWrite.{HaveTargets};
 ghost use Rattle.apply_plan.specs.MayWrite.{left_directly};
@@ -19,16 +19,16 @@ use kernel_model::{Kernel, KernelFault};
 use std::alloc::{AllocError, Global};
 use std::marker::Model;
 
-/// Containers on their way to the CPUs that they are to have, each as directly as it can be (make before break, parallel
-/// moves).
+/// Containers on their way to the CPUs that they are to have, each as directly as it can be (make before break,
+/// parallel moves).
 ///
 /// A container takes its target at once where no rival holds any of it. Where all that let go wait for each other, in
 /// rings, one that others wait for gives way: it keeps what nobody asks for, takes what is free of its target, and runs
 /// on spare CPUs that it is allowed, its places. Only where nobody in a ring can do so is one put on the reserved CPUs
 /// for a while, as a temporary.
 ///
-/// Of n entries a step looks at O(n) where a target is free. Where none is, it looks up for each entry whom it waits for,
-/// in O(n) each.
+/// Of n entries a step looks at O(n) where a target is free. Where none is, it looks up for each entry whom it waits
+/// for, in O(n) each.
 #[derive(Debug, Drop)]
 pub struct DirectHandover {
     entries: Vec<Entry>,
@@ -94,8 +94,8 @@ fn make_direct<K: Kernel, C: Cores>(
 }
 
 impl DirectHandover {
-    /// A hand-over that is to bring each entry's container to its target. Beside each entry stands what its container is
-    /// allowed, where it may run on its way.
+    /// A hand-over that is to bring each entry's container to its target. Beside each entry stands what its container
+    /// is allowed, where it may run on its way.
     ///
     /// # Errors
     /// An allocation failure: there is room for one number for each entry, so that no step allocates.
@@ -178,8 +178,8 @@ impl DirectHandover {
         // It makes one writing call if a write is due, and else none.
         ensures made { (K.state kernel.new).writes ≡ (K.state kernel.old).writes
             + made_directly self.old (C.least_of cores.now) (K.state kernel.old) }
-        // Each container requests none but what it did at first, its target, reserved CPUs and those that it is allowed. It
-        // keeps all of its target that it requested at first.
+        // Each container requests none but what it did at first, its target, reserved CPUs and those that it is
+        // allowed. It keeps all of its target that it requested at first.
         ensures on_way { (first : KernelState) → AreOnWay self.old first (K.state kernel.old)
             → AreOnWay self.old first (K.state kernel.new) }
         // One is put on the reserved CPUs alone only where it stands in a ring of which nobody can give way otherwise.

@@ -5,7 +5,7 @@ ghost use Rattle.cpuset_tree.specs.Groups.{has_group};
 ghost use Rattle.apply_plan.specs.Targets.{IsHandover, ArePlaced};
 ghost use Rattle.apply_plan.specs.DirectWords.{blocks, way, places};
 ghost use Rattle.apply_plan.specs.Directed.{allowed_in};
-ghost use Rattle.apply_plan.specs.DirectWrite.{must_yield, has_room, has_place, shared_way, aside, gets};
+ghost use Rattle.apply_plan.specs.DirectWrite.{must_yield, has_room, shared_way, aside, gets};
 ghost use Rattle.apply_plan.specs.Overviews.{IsOverview};
 ghost use Rattle.apply_plan.specs.NextTables.{AreNexts};
 ghost use Rattle.apply_plan.specs.Turns.{IsIn, gives_by, gets_by};
@@ -67,8 +67,8 @@ fn way<K: Kernel>(
     stays.union(&entry.target.minus(&seen.others(entry)))
 }
 
-/// The places of a container that is allowed these CPUs: those that are online and not reserved, that no live one holds,
-/// and that are not asked of it.
+/// The places of a container that is allowed these CPUs: those that are online and not reserved, that no live one
+/// holds, and that are not asked of it.
 fn places<K: Kernel>(
     kernel: &K,
     reserved: &IdSet,

@@ -53,8 +53,8 @@ pub fn worked()
     ensures ended { due swap (one_lives (2 ∷ 3 ∷ []) (1 ∷ [])) ≡ Some (write batch (0 ∷ [])) }
 {}
 
-/// The direct order, whichever of its writes are made: a container takes its target, of which no rival holds any, or one
-/// of which others ask gives way.
+/// The direct order, whichever of its writes are made: a container takes its target, of which no rival holds any, or
+/// one of which others ask gives way.
 ///
 /// What was safe stays safe after each. At most two writes for each entry are left, and each makes them fewer.
 pub fn directly()
@@ -65,9 +65,9 @@ pub fn directly()
 /// Any list of events while a direct hand-over is open. An event is a step of it, a failing one too, or any other write
 /// that may be made; a fork or an end of a process, a CPU that goes or comes, or a write of another group.
 ///
-/// What was safe stays safe after each single event. Each container requests none but what it did at first, its target,
-/// reserved CPUs and those that it is allowed, and keeps what it held of its target. Each write that succeeds leaves one
-/// less, as the kernel counts them, and nothing leaves one more.
+/// What was safe stays safe after each single event. Each container requests none but what it did at first, its
+/// target, reserved CPUs and those that it is allowed, and keeps what it held of its target. Each write that succeeds
+/// leaves one less, as the kernel counts them, and nothing leaves one more.
 pub fn direct_runs()
     ensures safe { StaysSafeDirectly }
     ensures on_way { StaysOnWay }
@@ -77,8 +77,8 @@ pub fn direct_runs()
 /// Small direct hand-overs of two containers, each row evaluated from what they request then.
 ///
 /// Two that want each other's CPU stand in a ring. The first steps aside onto a spare CPU, its place; where that is
-/// offline it is squeezed onto the reserved CPU. One that keeps a CPU of its own gives way with no place. A shared one lets
-/// go first of what a pinned one asks of it. Nobody waits for one that has ended.
+/// offline it is squeezed onto the reserved CPU. One that keeps a CPU of its own gives way with no place. A shared
+/// one lets go first of what a pinned one asks of it. Nobody waits for one that has ended.
 pub fn worked_directly()
     ensures rival { is_rival (both_live (1 ∷ []) (2 ∷ [])) (first_of_two (2 ∷ [])) (second_of_two (1 ∷ [])) ≡ true }
     ensures not_free { may_take (both_live (1 ∷ []) (2 ∷ [])) (moving_to (2 ∷ []) (1 ∷ [])).targets.reserved

@@ -1,5 +1,5 @@
-//! What the live containers of a hand-over hold and ask for together, so that of each of them it is told in a few sets what
-//! others have and want.
+//! What the live containers of a hand-over hold and ask for together, so that of each of them it is told in a few
+//! sets what others have and want.
 ghost use Rattle.std.specs.Prelude.{◌≡◌, ◌&&◌, true, cond};
 ghost use Rattle.std.specs.FinSet as set;
 ghost use Rattle.cpuset_tree.specs.Groups.{has_group};

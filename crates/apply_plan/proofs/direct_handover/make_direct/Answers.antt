@@ -4,7 +4,7 @@ use Rattle.apply_plan.specs.declared.handover.Progress.TheVariants.{More, Done}
 use Rattle.apply_plan.specs.Targets.{IsPlaced}
 use Rattle.apply_plan.specs.DueWrite.{written}
 use Rattle.apply_plan.specs.KernelFactLemmas.{made_is_placed}
-use Rattle.apply_plan.specs.DirectSteps.{due_places, told}
+use Rattle.apply_plan.specs.DirectStepLemmas.{due_places, told}
 use Rattle.apply_plan.proofs.direct_handover.make_direct.Goals as goal
 
 pub make_if_any-requires : goal.make_if_any-requires

@@ -3,7 +3,7 @@ use Rattle.std.specs.FinSet as set
 use Rattle.cpu_set.specs.Ids.{is_empty}
 use Rattle.apply_plan.specs.DirectWords.{places}
 use Rattle.apply_plan.specs.DirectWrite.{has_room}
-use Rattle.apply_plan.specs.SetMembers.{tells_empty}
+use Rattle.apply_plan.specs.SetMemberLaws.{tells_empty}
 use Rattle.apply_plan.proofs.giving.has_either.Goals as goal
 
 pub returns-else-not-is_subset : goal.returns-else-not-is_subset

@@ -1,10 +1,10 @@
 -- Each row is evaluated: sets that are written out are computed from their lists.
-use Rattle.std.proofs.Common.{◌≡◌, ℕ, ◌&&◌, not, List, [], ◌∷◌, filter, refl, sym, ◌∙◌}
+use Rattle.std.proofs.Common.{◌≡◌, ℕ, ◌&&◌, not, List, filter, refl, sym, ◌∙◌}
 use Rattle.std.specs.FinSet as set
 use Rattle.cpu_set.specs.Ids.{Ids}
 use Rattle.cpu_set.specs.ListedSets.{is_in, contains-listed, is_in-filter, intersection-listed, union-listed, is_subset-listed, len-listed}
 use Rattle.cpu_set.specs.PointwiseLaws.{same_members, contains-difference}
-use Rattle.apply_plan.specs.SetMembers.{union_none, none_union}
+use Rattle.apply_plan.specs.SetMemberLaws.{union_none, none_union}
 use Rattle.apply_plan.proofs.laws.worked_directly.Goals as goal
 
 abbrev listed : List ℕ → Ids

@@ -1,5 +1,5 @@
 use Rattle.apply_plan.specs.DirectLemmas.{few_left}
-use Rattle.apply_plan.specs.DirectSteps.{step_safe, step_lowers, step_on_way, step_done, step_counts, step_makes, step_keeps}
+use Rattle.apply_plan.specs.DirectStepLemmas.{step_safe, step_lowers, step_on_way, step_done, step_counts, step_makes, step_keeps}
 use Rattle.apply_plan.specs.SqueezeLemmas.{step_squeezes}
 use Rattle.apply_plan.proofs.direct_handover.DirectHandover.step.Goals as goal
 

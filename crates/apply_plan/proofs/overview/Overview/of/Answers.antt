@@ -4,7 +4,7 @@ use Rattle.proctable.specs.Processes.{is_alive}
 use Rattle.apply_plan.specs.DueWrite.{held, must_move}
 use Rattle.apply_plan.specs.DirectWords.{lets_go}
 use Rattle.apply_plan.specs.Overviews.{all_held, pinned_held, letting, moving}
-use Rattle.apply_plan.specs.SetMembers.{union_none, looked_at, all_of_them}
+use Rattle.apply_plan.specs.SetMemberLaws.{union_none, looked_at, all_of_them}
 use Rattle.apply_plan.proofs.overview.Overview.of.Goals as goal
 
 pub loop-entry-init : goal.loop-entry-init

@@ -27,7 +27,7 @@ use Rattle.apply_plan.specs.Directed.{Directed, allowed_of, Least, Serves}
 use Rattle.apply_plan.specs.OnWay.{AreOnWay, Makes}
 use Rattle.apply_plan.specs.DirectWrite.{due_directly, StepsDirectly, LowersDirectly, made_directly}
 use Rattle.apply_plan.specs.DirectLemmas.{both_of, each_lowers, blocking_lets, lets_moves}
-use Rattle.apply_plan.specs.DirectCases.{Direct, Rests, direct_is, makes}
+use Rattle.apply_plan.specs.DirectCaseLemmas.{Direct, Rests, direct_is, makes}
 use Rattle.apply_plan.specs.RingLemmas.{one_is_there}
 
 module _ (d : Directed) (valid : IsHandover d.targets) (old : KernelState) (placed : ArePlaced old d.targets.entries) where

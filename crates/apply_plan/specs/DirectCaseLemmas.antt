@@ -24,7 +24,7 @@ use Rattle.cpuset_tree.specs.Groups.{same_group}
 use Rattle.proctable.specs.Processes.{is_alive}
 use Rattle.std.proofs.Math.Nat.{le-max_right}
 use Rattle.apply_plan.specs.DirectedLemmas.{allowed_range}
-use Rattle.apply_plan.specs.SetMembers.{no_more, meet_has, in_meet, in_minus, in_union, minus_has, union_left, union_right, bigger_some}
+use Rattle.apply_plan.specs.SetMemberLaws.{no_more, meet_has, in_meet, in_minus, in_union, minus_has, union_left, union_right, bigger_some}
 use Rattle.apply_plan.specs.WayLemmas.{apart_from_it, gives_way, on_way}
 
 -- no target of choice 1 is free
