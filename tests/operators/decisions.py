@@ -23,9 +23,10 @@ from trial import check, end
 try:
     import hypothesis
 except ImportError:  # Debian's, where another Python comes first
-    if sys.executable != "/usr/bin/python3" and os.path.exists("/usr/lib/python3/dist-packages/hypothesis"):
-        os.execv("/usr/bin/python3", ["/usr/bin/python3", "-B", *sys.argv])
-    raise
+    if sys.executable == "/usr/bin/python3" or not os.path.exists("/usr/lib/python3/dist-packages/hypothesis"):
+        print("decisions: passed over, as there is no hypothesis and python3-hypothesis can't be installed")
+        sys.exit(0)
+    os.execv("/usr/bin/python3", ["/usr/bin/python3", "-B", *sys.argv])
 from hypothesis import strategies
 from model import RESERVED, Agent, Choices, Killed, World
 from numarun_host.ledger import CONTAINER_TOPICS, State
