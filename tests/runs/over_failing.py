@@ -150,4 +150,18 @@ def of_events():
         yield Run(fail, ended + [("rebalance", "plan total 40\nhold b 4-7\npool 0-3\nend"), B_NEW, SETTLED])
 
 
-RUNS = [of_the_node, of_creates, of_others, of_the_first_plan, of_steps, of_what_is_kept, of_shared_ones, of_ends, of_events]
+def of_standing_plans():
+    """Where a plan stands no write is made: the one that would fail is left to the next call of the kernel."""
+    next_fails = [HOME, ("make 0 x", "refused Failed"), ("make 0 x", "group 4")]
+    again = [("rebalance", PLAN_OF_BOTH)] + IN_PLACE
+    yield Run(14, BOTH_COME + AT_ONCE + again + again, next_fails)
+    yield Run(14, BOTH_COME + AT_ONCE + [("begin", PLAN_OF_BOTH), UNDERWAY, DONE] + IN_PLACE, next_fails)
+    # Nor is one where containers were adopted on the sets of a plan, nine writes behind the first.
+    adopted = [("adopt a ba 1-3", "pid 2"), ("adopt b bb 4-7", "pid 3")]
+    yield Run(10, adopted + again, next_fails)
+    # Where `a` has what `b` asks for, a write is made, and it is the one that fails.
+    yield Run(10, [("adopt a ba 4-6", "pid 2"), ("create b bb", "pid 3"), ("rebalance", FAULT), A_OLD, B_RESERVED, UNSETTLED])
+
+
+RUNS = [of_the_node, of_creates, of_others, of_the_first_plan, of_steps, of_what_is_kept, of_shared_ones, of_ends, of_events,
+        of_standing_plans]

@@ -35,3 +35,5 @@ pub mod MakingLemmas
 pub mod LateLemmas
 pub mod AgainLemmas
 pub mod RewriteLemmas
+pub mod SizeLemmas
+pub mod StandingLemmas

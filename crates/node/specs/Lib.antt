@@ -29,6 +29,7 @@ pub mod Asking
 pub mod WithoutCores
 pub mod Proved
 pub mod Questions
+pub mod Standing
 pub mod Machine
 pub mod Said
 pub mod Served

@@ -13,6 +13,7 @@ ghost use Rattle.node.specs.Proved.{LastIsProved, TotalIsProved, ShortIsProved};
 ghost use Rattle.node.specs.Questions.{Answers, ListAll, PhaseIs, SetsOf};
 ghost use Rattle.node.specs.Said.{ContainersAreSaid};
 ghost use Rattle.node.specs.Served.{RunsServeConfigs};
+ghost use Rattle.node.specs.Standing.{requested_sets, StandingPlansAreKept, AnsweredPlansStand, SecondsKeepPlans};
 ghost use Rattle.node.specs.Status.{status_by};
 ghost use Rattle.node.specs.WithoutCores.{WithoutCores};
 ghost use Rattle.node.specs.UnusedLemmas.{FirstIsUnused, FirstIsOfMachine, FirstWantsMemory};
@@ -85,6 +86,19 @@ pub fn each_rebalance()
     ensures { RunsRebalance }
 {}
 
+/// A plan that stands is kept. If what the live containers' groups request is a plan of least distance already, with
+/// the pool for the shared ones, a rebalance asks nothing of the kernel, moves nobody and answers that distance
+/// (`kept`). An allocation failure is all that can keep it from that. It doesn't matter who wrote the sets, so what was
+/// adopted with those of a least plan stays as it is.
+///
+/// Such a plan stands once a rebalance answered it (`stands`), so a second rebalance in a row writes nothing
+/// (`second`).
+pub fn standing_plans()
+    ensures kept { StandingPlansAreKept }
+    ensures stands { AnsweredPlansStand }
+    ensures second { SecondsKeepPlans }
+{}
+
 /// What a plan gives to a container, by the config that was read for it last. It holds after any list of calls and
 /// events from a node of no container on.
 ///
@@ -139,5 +153,6 @@ pub fn worked()
     ensures nobody { (n : NodeState) → Answers (record n { containers = [] }) (ListAll []) }
     ensures unknown { (n : NodeState)
         → Answers (record n { containers = [] }) (SetsOf (codes "a") (Err NodeFault.NoContainer)) }
+    ensures nobody_asks { (n : NodeState) → requested_sets (record n { containers = [] }) ≡ [] }
     ensures refused { node_title NodeFault.NotRunnable ≡ codes "E96 NotRunnable" }
 {}
