@@ -163,5 +163,13 @@ def of_standing_plans():
     yield Run(10, [("adopt a ba 4-6", "pid 2"), ("create b bb", "pid 3"), ("rebalance", FAULT), A_OLD, B_RESERVED, UNSETTLED])
 
 
+def of_those_that_stay():
+    """`a` has what it is to have, the shared container lets CPU 3 go, and `b` takes it: two writes, so none of `a`."""
+    lines = [("create s shared", "pid 2"), ("create a two", "pid 3"), ("rebalance", "plan total 20\nhold a 1-2\npool 0,3-7\nend"),
+             ("create b third", "pid 4"), ("rebalance", "plan total 30\nhold a 1-2\nhold b 3\npool 0,4-7\nend"),
+             ("sets s", "cpus 0,4-7 effective 0,4-7 mems 0-1 effective 0-1"), SETTLED]
+    yield Run(18, lines, [HOME, ("make 0 x", "refused Failed"), ("make 0 x", "group 5")])
+
+
 RUNS = [of_the_node, of_creates, of_others, of_the_first_plan, of_steps, of_what_is_kept, of_shared_ones, of_ends, of_events,
-        of_standing_plans]
+        of_standing_plans, of_those_that_stay]

@@ -37,3 +37,4 @@ pub mod AgainLemmas
 pub mod RewriteLemmas
 pub mod SizeLemmas
 pub mod StandingLemmas
+pub mod DisturbLemmas

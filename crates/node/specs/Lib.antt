@@ -30,6 +30,7 @@ pub mod WithoutCores
 pub mod Proved
 pub mod Questions
 pub mod Standing
+pub mod Disturbs
 pub mod Machine
 pub mod Said
 pub mod Served

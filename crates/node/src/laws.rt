@@ -2,6 +2,7 @@
 ghost use Rattle.std.specs.Prelude.{◌≡◌, true, false, [], codes};
 ghost use Rattle.node.specs.Asking.{RowsAreAsking, ScaledRowsAreAsking, ShortStands};
 ghost use Rattle.node.specs.Calls.{is_ending};
+ghost use Rattle.node.specs.Disturbs.{RebalancesWriteLittle};
 ghost use Rattle.node.specs.Ending.{HandoversEnd};
 ghost use Rattle.node.specs.FaultTitle.{node_title};
 ghost use Rattle.node.specs.Machine.{Ask, Step, FirstIsNode, RunsKeep, RunsStaySafe, RunsStayApart, RebalancesAreSteps};
@@ -97,6 +98,13 @@ pub fn standing_plans()
     ensures kept { StandingPlansAreKept }
     ensures stands { AnsweredPlansStand }
     ensures second { SecondsKeepPlans }
+{}
+
+/// How often a rebalance to a plan writes one live container. One that requests what the plan gives it is not written
+/// at all. One that lets nothing go but reserved CPUs, as it only gets more, is written once at most. So is one that
+/// only lets go, none of them reserved. No other is written more than twice, and nobody else's group is.
+pub fn each_write()
+    ensures { RebalancesWriteLittle }
 {}
 
 /// What a plan gives to a container, by the config that was read for it last. It holds after any list of calls and
