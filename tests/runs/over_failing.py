@@ -171,5 +171,12 @@ def of_those_that_stay():
     yield Run(18, lines, [HOME, ("make 0 x", "refused Failed"), ("make 0 x", "group 5")])
 
 
+def of_retries():
+    """A rebalance whose write failed, and one behind it: only what is still due is written, and then nothing is."""
+    next_works = [HOME, ("make 0 x", "group 4")]
+    for fail in (11, 12, 13):
+        yield Run(fail, BOTH_COME + [("rebalance", FAULT), UNSETTLED] + AT_ONCE + AT_ONCE, next_works)
+
+
 RUNS = [of_the_node, of_creates, of_others, of_the_first_plan, of_steps, of_what_is_kept, of_shared_ones, of_ends, of_events,
-        of_standing_plans, of_those_that_stay]
+        of_standing_plans, of_those_that_stay, of_retries]

@@ -37,4 +37,5 @@ pub mod AgainLemmas
 pub mod RewriteLemmas
 pub mod SizeLemmas
 pub mod StandingLemmas
+pub mod RetryLemmas
 pub mod DisturbLemmas

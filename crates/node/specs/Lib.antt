@@ -32,6 +32,7 @@ pub mod Questions
 pub mod Standing
 pub mod Disturbs
 pub mod Machine
+pub mod Retries
 pub mod Said
 pub mod Served
 pub mod Ending
