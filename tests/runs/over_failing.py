@@ -169,6 +169,11 @@ def of_those_that_stay():
              ("create b third", "pid 4"), ("rebalance", "plan total 30\nhold a 1-2\nhold b 3\npool 0,4-7\nend"),
              ("sets s", "cpus 0,4-7 effective 0,4-7 mems 0-1 effective 0-1"), SETTLED]
     yield Run(18, lines, [HOME, ("make 0 x", "refused Failed"), ("make 0 x", "group 5")])
+    # One that lets a reserved CPU go beside another is written twice.
+    lines = [("adopt a two 0-3", "pid 2"), ("rebalance", FAULT), ("sets a", "cpus 0-2 effective 0-2 mems 0 effective 0"), UNSETTLED]
+    yield Run(7, lines)
+    lines = [("adopt a two 0-3", "pid 2"), ("rebalance", "plan total 20\nhold a 1-2\npool 0,3-7\nend")]
+    yield Run(8, lines, [HOME, ("make 0 x", "refused Failed"), ("make 0 x", "group 3")])
 
 
 def of_retries():
