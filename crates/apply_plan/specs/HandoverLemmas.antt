@@ -80,7 +80,7 @@ keeps_itself h k = record {
 }
 
 module _ (h : Targets) (valid : IsHandover h) (old : KernelState) (placed : ArePlaced old h.entries) where
-  write_keeps : (e : Entry) (cpus : Ids) (test : Entry → Bool) → find test h.entries ≡ Some e → KeepsRest h old (with_request old e.group cpus)
+  pub write_keeps : (e : Entry) (cpus : Ids) (test : Entry → Bool) → find test h.entries ≡ Some e → KeepsRest h old (with_request old e.group cpus)
   write_keeps e cpus test found = record {
     table = refl;
     present = refl;
@@ -100,7 +100,7 @@ module _ (h : Targets) (valid : IsHandover h) (old : KernelState) (placed : AreP
 pub at_most_two : (h : Targets) (k : KernelState) → writes_to_come h k ≤ 2 * length h.entries
 at_most_two h k = sum_bounded (writes_of k h.reserved) 2 h.entries (λ e. waits_at_most h.reserved (is_alive k.table e.pid) (held k e) e)
 
-nothing_due : (d : Option Write) → progress_of d ≡ Done → d ≡ None
+pub nothing_due : (d : Option Write) → progress_of d ≡ Done → d ≡ None
 nothing_due None e = refl
 nothing_due (Some w) e = absurd (let x : ⊥ = cc in x)
 

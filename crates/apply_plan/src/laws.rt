@@ -4,6 +4,8 @@ ghost use Rattle.cpuset_tree.specs.Worked.{web, batch};
 ghost use Rattle.apply_plan.specs.DueWrite.{due};
 ghost use Rattle.apply_plan.specs.Runs.{StaysSafe, StaysBetween, EndsWithin, FewToCome};
 ghost use Rattle.apply_plan.specs.OneStep.{StepsLeave};
+ghost use Rattle.apply_plan.specs.MayWrite.{EachLowers, FewLeft};
+ghost use Rattle.apply_plan.specs.DirectRuns.{StaysSafeDirectly, StaysOnWay, EndsDirectly};
 ghost use Rattle.apply_plan.specs.Effects.{TargetsTakeEffect, SafeInEffect};
 ghost use Rattle.apply_plan.specs.Worked.{swap, both_live, one_lives, write};
 
@@ -44,4 +46,25 @@ pub fn worked()
     ensures second_takes { due swap (both_live (1 ∷ 2 ∷ []) (0 ∷ [])) ≡ Some (write batch (3 ∷ [])) }
     ensures done { due swap (both_live (1 ∷ 2 ∷ []) (3 ∷ [])) ≡ None }
     ensures ended { due swap (one_lives (2 ∷ 3 ∷ []) (1 ∷ [])) ≡ Some (write batch (0 ∷ [])) }
+{}
+
+/// The direct order, whichever of its writes are made: a container takes its target, of which no rival holds any, or one
+/// of which others ask gives way.
+///
+/// What was safe stays safe after each. At most two writes for each entry are left, and each makes them fewer.
+pub fn directly()
+    ensures lowers { EachLowers }
+    ensures few { FewLeft }
+{}
+
+/// Any list of events while a direct hand-over is open. An event is a step of it, a failing one too, or any other write
+/// that may be made; a fork or an end of a process, a CPU that goes or comes, or a write of another group.
+///
+/// What was safe stays safe after each single event. Each container requests none but what it did at first, its target,
+/// reserved CPUs and those that it is allowed, and keeps what it held of its target. Each write that succeeds leaves one
+/// less, as the kernel counts them, and nothing leaves one more.
+pub fn direct_runs()
+    ensures safe { StaysSafeDirectly }
+    ensures on_way { StaysOnWay }
+    ensures ends { EndsDirectly }
 {}

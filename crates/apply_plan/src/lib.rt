@@ -6,11 +6,20 @@
 //! [`Handover::finish`] makes all of them.
 #![tactic(auto)]
 
+mod cores;
+mod direct;
+mod direct_handover;
 mod entry;
+mod giving;
 mod handover;
 pub mod laws;
+mod overview;
+mod rings;
 mod scan;
+mod taking;
 mod walks;
 
+pub use cores::Cores;
+pub use direct_handover::DirectHandover;
 pub use entry::Entry;
 pub use handover::{Handover, Progress};
