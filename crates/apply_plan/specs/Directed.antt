@@ -9,6 +9,7 @@ use Rattle.cpuset_tree.specs.Groups.{same_group}
 use Rattle.apply_plan.specs.declared.entry.Entry.{Entry}
 use Rattle.apply_plan.specs.Targets.{Targets, targets_code, IsHandover}
 
+-- containers with their targets, the reserved CPUs, and what each container is allowed
 pub record Directed : Type 0 where
   pub targets : Targets
   pub allowed : List Ids

@@ -43,3 +43,4 @@ pub mod NextLemmas
 pub mod TurnLemmas
 pub mod DirectRuns
 pub mod DirectRunLemmas
+pub mod DirectWorked

@@ -26,6 +26,9 @@ use std::marker::Model;
 /// rings, one that others wait for gives way: it keeps what nobody asks for, takes what is free of its target, and runs
 /// on spare CPUs that it is allowed, its places. Only where nobody in a ring can do so is one put on the reserved CPUs
 /// for a while, as a temporary.
+///
+/// Of n entries a step looks at O(n) where a target is free. Where none is, it looks up for each entry whom it waits for,
+/// in O(n) each.
 #[derive(Debug, Drop)]
 pub struct DirectHandover {
     entries: Vec<Entry>,
