@@ -44,3 +44,7 @@ pub mod TurnLemmas
 pub mod DirectRuns
 pub mod DirectRunLemmas
 pub mod DirectWorked
+pub mod DirectFinishes
+pub mod DirectWalks
+pub mod DirectWalkLemmas
+pub mod DirectFinishLemmas

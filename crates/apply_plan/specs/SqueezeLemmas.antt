@@ -163,3 +163,11 @@ module _ (d : Directed) (valid : IsHandover d.targets) (least : Least) (gives : 
   pub step_squeezes : (new : KernelState) (r : Result Progress KernelFault) → StepsDirectly d least old r new → SqueezesOnlyStuck d old new
   step_squeezes new (Ok answer) s = subst (SqueezesOnlyStuck d old) (sym s.0) (by_due (due_directly d least old) (direct_is d least old))
   step_squeezes new (Err fault) s = subst (SqueezesOnlyStuck d old) (sym s.1) (none_squeezed (failed old) (λ a. refl))
+
+  -- so are those that are squeezed by a target that is taken, or by what is due
+  pub taken_squeezes : (test : Entry → Bool) (e : Entry) → find test d.targets.entries ≡ Some e → may_take old d.targets.reserved d.targets.entries e ≡ true
+      → SqueezesOnlyStuck d old (written old (Some (write_of e e.target)))
+  taken_squeezes test e found takes = by_write (write_of e e.target) (cases.Takes test e found takes)
+
+  pub due_squeezes : (w : Write) → due_directly d least old ≡ Some w → SqueezesOnlyStuck d old (written old (Some w))
+  due_squeezes w is = by_write w (subst (Direct d least old) is (direct_is d least old))

@@ -6,6 +6,7 @@ ghost use Rattle.apply_plan.specs.DueWrite.{due};
 ghost use Rattle.apply_plan.specs.Runs.{StaysSafe, StaysBetween, EndsWithin, FewToCome};
 ghost use Rattle.apply_plan.specs.OneStep.{StepsLeave};
 ghost use Rattle.apply_plan.specs.MayWrite.{EachLowers, FewLeft};
+ghost use Rattle.apply_plan.specs.DirectFinishes.{EachMayBeMade};
 ghost use Rattle.apply_plan.specs.DirectRuns.{StaysSafeDirectly, StaysOnWay, EndsDirectly};
 ghost use Rattle.apply_plan.specs.Effects.{TargetsTakeEffect, SafeInEffect};
 ghost use Rattle.apply_plan.specs.DirectWords.{is_rival, may_take, asks, blocks, asked, places, way};
@@ -72,6 +73,11 @@ pub fn direct_runs()
     ensures safe { StaysSafeDirectly }
     ensures on_way { StaysOnWay }
     ensures ends { EndsDirectly }
+{}
+
+/// The writes of a direct hand-over at once: each takes a free target, or gives way as a single step would.
+pub fn direct_finish()
+    ensures { EachMayBeMade }
 {}
 
 /// Small direct hand-overs of two containers, each row evaluated from what they request then.

@@ -13,6 +13,7 @@ mod cores;
 mod direct;
 mod direct_handover;
 mod entry;
+mod finishing;
 mod giving;
 mod handover;
 pub mod laws;

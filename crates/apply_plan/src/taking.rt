@@ -29,7 +29,7 @@ pub enum Taking {
 }
 
 /// Whether a live container does not hold its target.
-fn must_move<K: Kernel>(kernel: &K, entry: &Entry) -> bool
+pub fn must_move<K: Kernel>(kernel: &K, entry: &Entry) -> bool
     requires { has_group (K.state kernel.now).tree entry.now.group ≡ true }
     ensures { result ≡ must_move (K.state kernel.now) entry.now }
 {
@@ -37,7 +37,7 @@ fn must_move<K: Kernel>(kernel: &K, entry: &Entry) -> bool
 }
 
 /// Whether a live container holds CPUs that are neither reserved nor in its target.
-fn lets_go<K: Kernel>(kernel: &K, reserved: &IdSet, entry: &Entry) -> bool
+pub fn lets_go<K: Kernel>(kernel: &K, reserved: &IdSet, entry: &Entry) -> bool
     requires { has_group (K.state kernel.now).tree entry.now.group ≡ true }
     ensures { result ≡ lets_go (K.state kernel.now) reserved.now entry.now }
 {
