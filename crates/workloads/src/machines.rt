@@ -79,7 +79,8 @@ pub fn of_siblings(alloc: Global) -> Result<MachineFile, AllocError> {
     file(alloc, nodes.as_str(), CPUS, 8, Shape::Flat)
 }
 
-/// Nodes of CPUs whose memory lies on 64 other nodes: the farther a container's memory is, the more it gains by a near CPU.
+/// Nodes of CPUs whose memory lies on 64 other nodes: the farther a container's memory is, the more it gains by a near
+/// CPU.
 pub fn awkward(alloc: Global, chance: &mut Chance, cpus: u32) -> Result<MachineFile, AllocError> {
     let mut nodes = in_order(alloc, 64, cpus / 64)?;
     for _ in 0..64 {

@@ -1,9 +1,10 @@
 //! The workloads of `bench/`: jobs that a user of numarun waits for, on made inputs. No part of the product.
 //!
-//! `workloads NAME SEED SIZE COUNT`: the seed says which input of its kind and size is made, SIZE how many containers there
-//! are, and COUNT how often something happens to them. What is printed is a digest of all answers.
+//! `workloads NAME SEED SIZE COUNT`: the seed says which input of its kind and size is made, SIZE how many containers
+//! there are, and COUNT how often something happens to them. What is printed is a digest of all answers.
 //!
-//! - `typical`: a machine of 8 nodes and 1,024 CPUs; containers come and go, a CPU fails and returns, a plan after each.
+//! - `typical`: a machine of 8 nodes and 1,024 CPUs; containers come and go, a CPU fails and returns, a plan after
+//!   each.
 //! - `large`: the same on 4,096 CPUs of 128 nodes in a ring.
 //! - `own-cores`: each container names the cores that it wants, which nobody else names.
 //! - `events`: CPUs go and come, processes fork and exit, plans are handed over write by write.

@@ -181,7 +181,8 @@ fn after_plan(answers: &[u8]) -> &[u8] {
     rest
 }
 
-/// So many machines and lists by which each container displaces many others; a plan, and one more where one was replaced.
+/// So many machines and lists by which each container displaces many others; a plan, and one more where one was
+/// replaced.
 pub fn awkward(alloc: Global, chance: &mut Chance, size: u32, count: u32) -> Result<Option<u64>> {
     let mut sum = Digest::new();
     let cpus = size.saturating_mul(4).min(CPUS);

@@ -114,8 +114,8 @@ pub fn with_halves(
     Ok(requests)
 }
 
-/// Requests for one CPU each but the last, which asks for all that are left; memory ever farther from the CPUs; and each is
-/// allowed 95 of 100 CPUs and those that a plan gives it.
+/// Requests for one CPU each but the last, which asks for all that are left; memory ever farther from the CPUs; and
+/// each is allowed 95 of 100 CPUs and those that a plan gives it.
 pub fn displacing(
     alloc: Global,
     chance: &mut Chance,
