@@ -153,20 +153,25 @@ def refused_at(n, number, what):
         assert (ran.done.returncode, ran.out) == (1, "refused E50 KernelFault\n"), (what, ran.out)
         assert ran.err == f"error: {ran.folder}/root: another program has it\n", (what, ran.err)
     elif path == "":
-        assert ran.out == whole.out and ran.err == f"note: {ran.folder}/root: no lock: {told(number)}\n", (what, ran.out, ran.err)
+        assert (ran.done.returncode, ran.out) == (1, "refused E50 KernelFault\n"), (what, ran.out)
+        assert ran.err == f"error: {ran.folder}/root: {told(number)}\nerror: {ran.folder}/root: can't be locked\n", (what, ran.err)
     elif call == "read" and path.startswith("/numarun/"):
         assert ran.out == whole.out and len(notes) == 1, (what, ran.out, ran.err)
     elif call == "read" and number == errno.ENOENT:
         assert ran.out == whole.out and not ran.err, (what, ran.out, ran.err)
     elif call == "read":
         assert (ran.done.returncode, ran.out) == (1, "refused E113 ReadFault\n"), (what, ran.out)
-        assert ran.err.startswith(f"error: {ran.folder}/root: "), (what, ran.err)
+        assert ran.err == f"error: {ran.folder}/root{path}: {told(number)}\nerror: {ran.folder}/root: can't be read\n", (what, ran.err)
     elif call == "rmdir" and number == errno.EBUSY:
         assert ran.out == whole.out and not ran.err, (what, ran.out, ran.err)
     elif call == "rmdir" and number == errno.ENOENT:
         assert "E50" not in ran.out and len(notes) == 1, (what, ran.out, ran.err)
     else:
         assert ran.out.count("refused E50 KernelFault\n") >= 1 and len(notes) == 1, (what, ran.out, ran.err)
+        if call == "write":
+            assert notes == [f"error: {ran.folder}/root{path}: {refused[0].split(' ')[2]}: {told(number)}"], (what, notes)
+        lacks = "note: " in ran.err
+        assert lacks == (call == "open" and number == errno.ENOENT and path.endswith("/cgroup.subtree_control")), (what, ran.err)
     apart = check_apart(ran.calls, what)
     check_files(ran, what)
     ran.remove()

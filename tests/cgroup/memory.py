@@ -1,5 +1,6 @@
 """Makes a container in a folder that stands for a cgroup v2 tree, with each allocation refused in turn, where its group's folder is
-there already and where it is not: a folder that was there stays, and one that was made for nothing goes.
+there already and where it is not: a folder that was there stays, and one that was made for nothing goes. Then a plan of three: no
+hand-over breaks off when memory runs out.
 
 PROGRAM FOLDERS REFUSE MACHINE, from the top of the repository: the two libraries are loaded before the program."""
 
@@ -19,7 +20,7 @@ refusals = open(tempfile.mktemp(), "ab")
 os.dup2(refusals.fileno(), 3)
 
 
-def ran(found, number):
+def ran(found, number, script=SCRIPT):
     """What a run answers with this allocation refused, whether one was, its calls, and whether the folder is there at the end."""
     folder = tempfile.mkdtemp()
     root, log = folder + "/root", folder + "/log"
@@ -30,7 +31,7 @@ def ran(found, number):
     open(log, "w").close()
     refusals.truncate(0)
     environment = dict(os.environ, LD_PRELOAD=f"{folders} {refuse}", FOLDERS_ROOT=root, FOLDERS_LOG=log, REFUSE=str(number))
-    done = run([program, "run", machine, "--cgroup", root, "--adopt"], SCRIPT, env=environment, pass_fds=[3])
+    done = run([program, "run", machine, "--cgroup", root, "--adopt"], script, env=environment, pass_fds=[3])
     calls, there = open(log).read().splitlines(), os.path.isdir(root + "/numarun/web")
     shutil.rmtree(folder)
     return done, os.fstat(refusals.fileno()).st_size > 0, calls, there
@@ -52,3 +53,23 @@ for found in (False, True):
             undone += 1
     assert found or undone, "no allocation behind a folder was refused"
     print(f"cgroup: {number - 1} allocations, each refused in turn, where the folder is {'there' if found else 'not there'}")
+
+PLAN = b"""create database examples/bundles/database
+create packets examples/bundles/packet-processing
+create web examples/bundles/web
+rebalance
+phase
+"""
+number, planned = 0, 0
+while True:
+    number += 1
+    done, refused, calls, there = ran(False, number, PLAN)
+    answers = done.stdout.decode().splitlines()
+    if answers[:3] == ["pid 2", "pid 3", "pid 4"]:
+        assert answers[3].startswith("plan ") or answers[3] == "refused E1 Memory", (number, answers, done.stderr)
+        assert answers[-1] == "settled", (number, answers)
+        planned += answers[3].startswith("plan ")
+    if not refused:
+        break
+assert planned > 1, "no allocation behind the plan was refused"
+print(f"cgroup: {number - 1} allocations of a plan, each refused in turn: none breaks a hand-over off")

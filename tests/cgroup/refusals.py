@@ -14,12 +14,22 @@ from roots import grouped
 program, machine = sys.argv[1:]  # two-socket.json: CPUs 0-31 online, nodes 0 and 1
 
 
+def held(folder):
+    """What is below a folder: each path, with the text of a file."""
+    paths = sorted(pathlib.Path(folder).rglob("*"))
+    return [(path, path.read_text() if path.is_file() and not path.is_symlink() else None) for path in paths]
+
+
 def played(make, words=(), script=b"list\n"):
-    """Status, standard output and standard error over a root that this makes, ROOT for its name."""
+    """Status, standard output and standard error over a root that this makes, ROOT for its name. A root that is refused is left as
+    it was."""
     folder = tempfile.mkdtemp()
     root = folder + "/root"
     make(root)
+    before = held(folder)
     done = run([program, "run", machine, "--cgroup", root, *words], script)
+    if done.stdout.startswith((b"refused E113", b"refused E115", b"refused E116")):
+        assert held(folder) == before, f"a refused root is changed: {held(folder)}, not {before}"
     answer = (done.returncode, done.stdout.decode(), done.stderr.decode().replace(root, "ROOT"))
     shutil.rmtree(folder)
     return answer
@@ -52,11 +62,17 @@ def other(file, what):
     return 1, "refused E116 OtherMachine\n", f"error: ROOT/cpuset.{file}.effective: {what}\n"
 
 
+def unread(name):
+    """A file of the root is a folder."""
+    why = f"error: ROOT/{name}: Is a directory (os error 21)\nerror: ROOT: can't be read\n"
+    return 1, "refused E113 ReadFault\n", why
+
+
 NO_LIST = "is no list of numbers below 4096"
 TABLE = [
     ("nothing is there", lambda root: None, (), (1, "refused E113 ReadFault\n", "error: ROOT: no such file\n")),
-    ("a file", file, (), (1, "refused E113 ReadFault\n", "error: ROOT: can't be read\n")),
-    ("a file below a file", lambda root: file(root), ("--adopt",), (1, "refused E113 ReadFault\n", "error: ROOT: can't be read\n")),
+    ("a file", file, (), (1, "refused E113 ReadFault\n", "error: ROOT: not a directory\n")),
+    ("a file, adopted", file, ("--adopt",), (1, "refused E113 ReadFault\n", "error: ROOT: not a directory\n")),
     ("a plain folder", folder(), (), NONE),
     ("controllers with cpuset", folder(cgroup_controllers="cpuset cpu io\n"), (), NONE),
     ("cpuset last", folder(cgroup_controllers="cpu cpuset\n"), (), NONE),
@@ -76,10 +92,14 @@ TABLE = [
     ("a node that the machine has not", folder(cpuset_mems_effective="0-2\n"), (), other("mems", "has besides 2")),
     ("no list of nodes", folder(cpuset_mems_effective="none\n"), (), other("mems", NO_LIST)),
     ("a node past the limit", folder(cpuset_mems_effective="0,4096\n"), (), other("mems", NO_LIST)),
-    ("controllers that are a folder", folder(cgroup_controllers=None), (), (1, "refused E113 ReadFault\n", "error: ROOT: is a directory\n")),
+    ("a node that it lacks, and another", folder(cpuset_mems_effective="1-2\n"), (), other("mems", "has besides 2")),
+    ("controllers that are a folder", folder(cgroup_controllers=None), (), unread("cgroup.controllers")),
+    ("CPUs in effect that are a folder", folder(cpuset_cpus_effective=None), (), unread("cpuset.cpus.effective")),
+    ("nodes in effect that are a folder", folder(cpuset_mems_effective=None), (), unread("cpuset.mems.effective")),
     ("both, the first", folder(cgroup_controllers="cpu\n", cpuset_cpus_effective="0\n"), (), (1, "refused E115 NoCpuset\n", "")),
     ("a run before", folder(numarun=None), (), (1, "refused E50 KernelFault\n", "error: ROOT/numarun: File exists (os error 17)\n")),
     ("a run before, adopted", folder(numarun=None), ("--adopt",), NONE),
+    ("a file where its folder would be", folder(numarun=""), ("--adopt",), (1, "refused E50 KernelFault\n", "error: ROOT/numarun: File exists (os error 17)\n")),
     ("no file to pass controllers on", lambda root: os.mkdir(root), (),
      (1, "refused E50 KernelFault\n", "error: ROOT/cgroup.subtree_control: No such file or directory (os error 2)\n"
       "note: ROOT/cgroup.subtree_control: each folder of a cgroup v2 tree has this file\n")),
@@ -156,6 +176,29 @@ def link_is_gone(root):
 answers, err = lived([web, "kill web KILL", "delete web", link_is_gone, "list"], links, ("--adopt",))
 assert answers == ["pid 2\n", "ok\n", "ok\n", "end\n"], answers
 assert err.splitlines()[-1] == "note: ROOT/numarun/web: a link is removed", err
+
+
+def a_link(root):
+    """The folder that the run made is a link now, to a group elsewhere."""
+    os.mkdir(root + "/slice")
+    for name in roots.FILES:
+        pathlib.Path(f"{root}/slice/{name}").write_text("")
+    os.rmdir(root + "/numarun/web")
+    os.symlink(root + "/slice", root + "/numarun/web")
+
+
+def link_stays(root):
+    assert os.path.islink(root + "/numarun/web") and os.path.isdir(root + "/slice"), os.listdir(root + "/numarun")
+
+
+def passes_on(root):
+    """The group of all containers has the file of a cgroup by which its children get a controller; plain folders have none."""
+    pathlib.Path(root + "/numarun/cgroup.subtree_control").write_text("")
+
+
+answers, err = lived(["list", passes_on, web, a_link, web, "kill web KILL", "delete web", link_stays], folder())
+assert answers == ["end\n", E50, "pid 2\n", "ok\n", E50], answers
+assert err.splitlines()[-1] == "error: ROOT/numarun/web: Not a directory (os error 20)", err
 
 
 def ids(root):

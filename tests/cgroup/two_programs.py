@@ -74,6 +74,29 @@ out, err = first.communicate()
 check("ended", (first.returncode, out, err), (0, b"", b""))
 check("ended, and taken up", second(root, "--adopt"), FREE)
 
+# It has the root as long as it lives: behind the first folder that it makes, and behind the first that it removes.
+os.mkdir(root + "/numarun/web")
+for name in ("cpuset.cpus", "cpuset.mems", "cpuset.cpus.effective", "cgroup.kill"):
+    pathlib.Path(root, "numarun/web", name).write_text("")
+
+
+def ask(line):
+    """The first program's answer to a line."""
+    first.stdin.write(line + b"\n")
+    first.stdin.flush()
+    return first.stdout.readline()
+
+
+first = begun("--adopt")
+check("a container", ask(b"create web examples/bundles/web"), b"pid 2\n")
+check("behind a create", second(root, "--adopt"), HAD)
+check("killed", ask(b"kill web KILL"), b"ok\n")
+for name in os.listdir(root + "/numarun/web"):
+    os.remove(f"{root}/numarun/web/{name}")
+check("deleted", (ask(b"delete web"), os.listdir(root + "/numarun")), (b"ok\n", []))
+check("behind a delete", second(root, "--adopt"), HAD)
+first.communicate()
+
 # Whoever else locks the folder, as an agent does, is a program that has it; and finds that this one has it.
 agent = os.open(root, os.O_RDONLY | os.O_DIRECTORY)
 fcntl.flock(agent, fcntl.LOCK_EX)

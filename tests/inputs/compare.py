@@ -160,7 +160,7 @@ class Inputs:
 
     def run(self, text):
         lines, notes = scripted([self.program] + place(MACHINE, None, {}), text)
-        return lines + [str(notes)] * bool(notes)
+        return lines + [f"! {note}" for note in notes.values()]
 
     def written(self, what, text):
         """What writers of some widths have in the end, of which each has a prefix of it before, and so many bytes for each write."""

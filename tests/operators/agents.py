@@ -103,7 +103,7 @@ def refused_writes():
     agent.until("done")
     open(site.at("work/tree/read-only"), "w").close()
     site.come("b", 1)
-    check("read-only", agent.until("failed"), ["failed b/cpuset.cpus: Read-only file system (os error 30)"])
+    check("read-only", agent.until("failed"), ["failed b/cpuset.cpus: 0: Read-only file system (os error 30)"])
     site.go("a")
     os.remove(site.at("work/tree/read-only"))
     lines = agent.until("create b") + agent.until("done")
@@ -117,7 +117,7 @@ def refused_writes():
     open(site.at("work/tree/read-only"), "w").close()
     site.online("0-6")
     check("a write of a hand-over", agent.until("failed"),
-          ["offline 7", "plan total 20", "pool 0,3-6", "failed s/cpuset.cpus: Read-only file system (os error 30)"])
+          ["offline 7", "plan total 20", "pool 0,3-6", "failed s/cpuset.cpus: 0,3-6: Read-only file system (os error 30)"])
     site.online("0-7")
     check("tried again", agent.until("plan"), ["online 7", "plan total 20"])
     site.online("0-5")

@@ -150,4 +150,38 @@ def of_events():
         yield Run(fail, ended + [("rebalance", "plan total 40\nhold b 4-7\npool 0-3\nend"), B_NEW, SETTLED])
 
 
-RUNS = [of_the_node, of_creates, of_others, of_the_first_plan, of_steps, of_what_is_kept, of_shared_ones, of_ends, of_events]
+def of_standing_plans():
+    """Where a plan stands no write is made: the one that would fail is left to the next call of the kernel."""
+    next_fails = [HOME, ("make 0 x", "refused Failed"), ("make 0 x", "group 4")]
+    again = [("rebalance", PLAN_OF_BOTH)] + IN_PLACE
+    yield Run(14, BOTH_COME + AT_ONCE + again + again, next_fails)
+    yield Run(14, BOTH_COME + AT_ONCE + [("begin", PLAN_OF_BOTH), UNDERWAY, DONE] + IN_PLACE, next_fails)
+    # Nor is one where containers were adopted on the sets of a plan, nine writes behind the first.
+    adopted = [("adopt a ba 1-3", "pid 2"), ("adopt b bb 4-7", "pid 3")]
+    yield Run(10, adopted + again, next_fails)
+    # Where `a` has what `b` asks for, a write is made, and it is the one that fails.
+    yield Run(10, [("adopt a ba 4-6", "pid 2"), ("create b bb", "pid 3"), ("rebalance", FAULT), A_OLD, B_RESERVED, UNSETTLED])
+
+
+def of_those_that_stay():
+    """`a` has what it is to have, the shared container lets CPU 3 go, and `b` takes it: two writes, so none of `a`."""
+    lines = [("create s shared", "pid 2"), ("create a two", "pid 3"), ("rebalance", "plan total 20\nhold a 1-2\npool 0,3-7\nend"),
+             ("create b third", "pid 4"), ("rebalance", "plan total 30\nhold a 1-2\nhold b 3\npool 0,4-7\nend"),
+             ("sets s", "cpus 0,4-7 effective 0,4-7 mems 0-1 effective 0-1"), SETTLED]
+    yield Run(18, lines, [HOME, ("make 0 x", "refused Failed"), ("make 0 x", "group 5")])
+    # One that lets a reserved CPU go beside another is written twice.
+    lines = [("adopt a two 0-3", "pid 2"), ("rebalance", FAULT), ("sets a", "cpus 0-2 effective 0-2 mems 0 effective 0"), UNSETTLED]
+    yield Run(7, lines)
+    lines = [("adopt a two 0-3", "pid 2"), ("rebalance", "plan total 20\nhold a 1-2\npool 0,3-7\nend")]
+    yield Run(8, lines, [HOME, ("make 0 x", "refused Failed"), ("make 0 x", "group 3")])
+
+
+def of_retries():
+    """A rebalance whose write failed, and one behind it: only what is still due is written, and then nothing is."""
+    next_works = [HOME, ("make 0 x", "group 4")]
+    for fail in (11, 12, 13):
+        yield Run(fail, BOTH_COME + [("rebalance", FAULT), UNSETTLED] + AT_ONCE + AT_ONCE, next_works)
+
+
+RUNS = [of_the_node, of_creates, of_others, of_the_first_plan, of_steps, of_what_is_kept, of_shared_ones, of_ends, of_events,
+        of_standing_plans, of_those_that_stay, of_retries]

@@ -1,8 +1,9 @@
 """Runs a script that forks until every pid was given, and then asks for more of them, and one that makes and removes a container
 more than 65,536 times, so that as many groups are made: `last_pid.py PROGRAM`. What is to be answered is counted here; a second
-runtime would take minutes over it."""
+runtime would take minutes over it. Without pids a `create` of a new id leaves nothing, so that 50,000 of them take no memory."""
 
 import os
+import resource
 import sys
 import tempfile
 
@@ -23,10 +24,13 @@ AFTER = [
     ("create a ba", "refused E45 NoPids"),
     ("list", "end"),
 ]
+NEW = [(f"{command} c{k} ba{cpus}", "refused E45 NoPids") for k in range(25_000) for command, cpus in (("create", ""), ("adopt", " 0"))]
+MORE_MEMORY = 8 * 2**20
 MADE = [line for k in range(66_000) for line in (("create a ba", f"pid {k + 2}"), ("kill a 9", "ok"), ("delete a", "ok"))]
 
 
 def compare(program, lines):
+    """Compares the answers, and tells the most memory of a program so far, in bytes."""
     with tempfile.TemporaryDirectory() as folder:
         os.chdir(folder)
         words = place(MACHINE, None, {"ba": config({"quota": 100000})})
@@ -36,11 +40,15 @@ def compare(program, lines):
     if (done.returncode, done.stdout, done.stderr) != (0, expected, b""):
         sys.exit(f"last pid: status {done.returncode}, the last answers {done.stdout[-300:]}, error {done.stderr[:300]}")
     print(f"last pid: {len(lines)} lines")
+    return resource.getrusage(resource.RUSAGE_CHILDREN).ru_maxrss * 1024
 
 
 def main(program):
     program = os.path.abspath(program)
-    compare(program, BEFORE + GIVEN + AFTER)
+    most = compare(program, BEFORE + GIVEN + AFTER)
+    more = compare(program, BEFORE + GIVEN + NEW) - most
+    if more > MORE_MEMORY:
+        sys.exit(f"last pid: {len(NEW)} creates that are refused take {more} bytes")
     compare(program, MADE)
 
 

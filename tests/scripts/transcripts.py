@@ -20,7 +20,9 @@ from second_runtime import Wrong, check, numbers
 LONGEST = 2 * 1024 + 4096 + 3
 
 # What standard error says of a config that is no JSON.
-NOTE = re.compile(rb"^error: .*/config\.json: (is not UTF-8|ends too early|is no JSON), line [1-9][0-9]* column [0-9]+\n", re.MULTILINE)
+NO_JSON = rb"(is not UTF-8|ends too early|is no JSON), line [1-9][0-9]* column [0-9]+"
+UNREAD = rb"no such file|can't be read|is a directory|not a directory|permission denied|has more than [0-9]+ bytes"
+NOTE = re.compile(rb"^error: .*/config\.json: (" + NO_JSON + rb"|" + UNREAD + rb")\n", re.MULTILINE)
 
 
 def config(section):
@@ -112,9 +114,9 @@ def run(program, words, script, **more):
 
 
 def unwanted(done, notes_lack=False):
-    """What is wrong with standard error: it has a note for each refusal of a config that is no JSON, and nothing else."""
+    """What is wrong with standard error: it has a note for each refusal of a config that can't be read or is no JSON, and nothing else."""
     rest, notes = NOTE.subn(b"", done.stderr)
-    refusals = done.stdout.count(b"refused E56 NotJson\n")
+    refusals = sum(done.stdout.count(refusal) for refusal in (b"refused E56 NotJson\n", b"refused E111 NoBundle\n"))
     return rest or (notes > refusals if notes_lack else notes != refusals)
 
 

@@ -17,7 +17,7 @@ use Rattle.apply_plan.specs.Leaves.{KeepsRest}
 use Rattle.apply_plan.specs.LeavesLemmas.{rest_then}
 use Rattle.apply_plan.specs.Finishes.{StepsMore, last_answer, Finishes}
 use Rattle.apply_plan.specs.Walks.{Writes, HasWritten, Stops, HaveReleased, NoneMust, HaveMoved, TakesTargets}
-use Rattle.apply_plan.specs.KernelFacts.{placed_alike}
+use Rattle.apply_plan.specs.KernelFactLemmas.{placed_alike}
 use Rattle.apply_plan.specs.HandoverLemmas.{at_most_two, step_safe, step_between, step_done, step_counts, step_spends, done_none, step_keeps, keeps_itself}
 use Rattle.apply_plan.proofs.WalkLemmas.{none_found}
 

@@ -17,7 +17,7 @@ use Rattle.apply_plan.specs.DueWrite.{held, kept_of, must_release, must_move, re
 use Rattle.apply_plan.specs.KeptLemmas.{kept_target, kept_again}
 use Rattle.apply_plan.specs.Walks.{its_release, its_move, IsMadeIfAny, Writes, HasWritten, Stops, NoneMust, HaveReleased, HaveMoved}
 use Rattle.apply_plan.specs.ListLemmas.{all_behind, all_map2, find_among}
-use Rattle.apply_plan.specs.KernelFacts.{with_request, is_write, stands, placed_alike}
+use Rattle.apply_plan.specs.KernelFactLemmas.{with_request, is_write, stands, placed_alike}
 use Rattle.apply_plan.specs.WriteLemmas.{IsWrite, Left, all_left, by_test}
 use Rattle.apply_plan.specs.StepLemmas.{is_same_itself}
 use Rattle.std.proofs.Math.Bool.{and-false}

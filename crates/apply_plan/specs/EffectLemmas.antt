@@ -4,7 +4,7 @@ use Rattle.std.proofs.lemmas.Bool.{false≢true, cond-false}
 use Rattle.std.specs.List.{AllByRecursion}
 use Rattle.std.specs.FinSet as set
 use Rattle.cpu_set.specs.Ids.{Ids, is_empty}
-use Rattle.cpu_set.specs.Pointwise.{contains-intersection}
+use Rattle.cpu_set.specs.PointwiseLaws.{contains-intersection}
 use Rattle.cpuset_tree.specs.declared.Group.{Group}
 use Rattle.cpuset_tree.specs.Groups.{cpus_in, requested_cpus}
 use Rattle.cpuset_tree.specs.Effective.{granted, effective_cpus}

@@ -21,7 +21,7 @@ use Rattle.apply_plan.specs.Targets.{Targets, holders_of, IsHandover, IsPlaced, 
 use Rattle.apply_plan.specs.DueWrite.{held, kept_of, must_release, must_move, release_of, move_of, due, written, progress_of, Steps, writes_of, writes_to_come, HasTarget, HaveTargets, IsBetween, Between, Lowers, made_by_step, Spends}
 use Rattle.apply_plan.specs.Leaves.{KeepsRest}
 use Rattle.apply_plan.specs.ListLemmas.{all_map, find_none, find_among, sum_bounded}
-use Rattle.apply_plan.specs.KernelFacts.{with_request, is_write, stands}
+use Rattle.apply_plan.specs.KernelFactLemmas.{with_request, is_write, stands}
 use Rattle.apply_plan.specs.WriteLemmas.{holds_target}
 use Rattle.apply_plan.specs.StepLemmas.{waits_at_most, released_safe, released_lowers, moved_safe, moved_lowers, stays_between, keeps_between}
 use Rattle.apply_plan.specs.DueLemmas.{Due, Releases, Moves, Rests, due_is}
@@ -80,7 +80,7 @@ keeps_itself h k = record {
 }
 
 module _ (h : Targets) (valid : IsHandover h) (old : KernelState) (placed : ArePlaced old h.entries) where
-  write_keeps : (e : Entry) (cpus : Ids) (test : Entry → Bool) → find test h.entries ≡ Some e → KeepsRest h old (with_request old e.group cpus)
+  pub write_keeps : (e : Entry) (cpus : Ids) (test : Entry → Bool) → find test h.entries ≡ Some e → KeepsRest h old (with_request old e.group cpus)
   write_keeps e cpus test found = record {
     table = refl;
     present = refl;
@@ -100,7 +100,7 @@ module _ (h : Targets) (valid : IsHandover h) (old : KernelState) (placed : AreP
 pub at_most_two : (h : Targets) (k : KernelState) → writes_to_come h k ≤ 2 * length h.entries
 at_most_two h k = sum_bounded (writes_of k h.reserved) 2 h.entries (λ e. waits_at_most h.reserved (is_alive k.table e.pid) (held k e) e)
 
-nothing_due : (d : Option Write) → progress_of d ≡ Done → d ≡ None
+pub nothing_due : (d : Option Write) → progress_of d ≡ Done → d ≡ None
 nothing_due None e = refl
 nothing_due (Some w) e = absurd (let x : ⊥ = cc in x)
 

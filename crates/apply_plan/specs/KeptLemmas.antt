@@ -3,7 +3,7 @@ use Rattle.std.proofs.Common.{◌≡◌, ℕ, Bool, true, false, not, ◌&&◌, 
 use Rattle.std.proofs.lemmas.Bool.{cond-true, cond-false, false≢true}
 use Rattle.std.specs.FinSet as set
 use Rattle.cpu_set.specs.Ids.{Ids, is_empty}
-use Rattle.cpu_set.specs.Pointwise.{same_members, contains-union, contains-intersection, contains-difference, is_subset-contains}
+use Rattle.cpu_set.specs.PointwiseLaws.{same_members, contains-union, contains-intersection, contains-difference, is_subset-contains}
 use Rattle.apply_plan.specs.Kept.{within, kept}
 
 module _ (reserved target cpus : Ids) where

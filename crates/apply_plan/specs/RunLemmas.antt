@@ -24,7 +24,7 @@ use Rattle.apply_plan.specs.WriteLemmas.{ApartAs}
 use Rattle.apply_plan.specs.StepLemmas.{waits}
 use Rattle.apply_plan.specs.EventLemmas.{IsCalm, calm, still_open}
 use Rattle.apply_plan.specs.HandoverLemmas.{step_safe, step_lowers, step_between, step_done, step_counts, step_makes, step_spends, done_none, step_keeps}
-use Rattle.apply_plan.specs.KernelFacts.{placed_alike}
+use Rattle.apply_plan.specs.KernelFactLemmas.{placed_alike}
 use Rattle.apply_plan.specs.declared.scan.Write.{Write}
 use Rattle.cpuset_tree.specs.declared.Group.{Group}
 use Rattle.kernel_model.specs.declared.KernelFault.TheVariants.{Failed}

@@ -5,7 +5,7 @@ use Rattle.std.specs.Prelude.{◌⊎◌, cond, find, Some, None}
 use Rattle.std.specs.List.{AllByRecursion}
 use Rattle.std.specs.FinSet as set
 use Rattle.cpu_set.specs.Ids.{Ids, is_same, is_empty}
-use Rattle.cpu_set.specs.Pointwise.{is_same_decides}
+use Rattle.cpu_set.specs.PointwiseLaws.{is_same_decides}
 use Rattle.cpuset_tree.specs.Groups.{same_group, requested_cpus}
 use Rattle.cpuset_tree.specs.GroupLemmas.{same_group_sym}
 use Rattle.proctable.specs.Processes.{is_alive}

@@ -5,7 +5,7 @@ use Rattle.std.specs.Prelude.{◌⊎◌, find, Some}
 use Rattle.std.specs.List.{AllByRecursion}
 use Rattle.std.specs.FinSet as set
 use Rattle.cpu_set.specs.Ids.{Ids, is_same}
-use Rattle.cpu_set.specs.Pointwise.{same_subsets}
+use Rattle.cpu_set.specs.PointwiseLaws.{same_subsets}
 use Rattle.cpuset_tree.specs.declared.Group.{Group}
 use Rattle.cpuset_tree.specs.Groups.{same_group, requested_cpus}
 use Rattle.cpuset_tree.specs.GroupLemmas.{same_group_itself, same_group_sym}

@@ -24,6 +24,14 @@ pub enum Progress {
 
 /// Containers on their way to the CPUs that they are to have.
 ///
+/// ```text
+/// let mut handover = Handover::new(entries, reserved);
+/// while handover.step(&mut kernel)? == Progress::More {}
+/// ```
+///
+/// The test `steps_are_the_releases_and_then_the_moves` of the crate `scenarios` makes these calls. `finish` makes all
+/// of them in one.
+///
 /// Of n entries a step looks at O(n) and `finish` at O(n) in all, each time by two reads of the kernel at most: what
 /// the group requests, and whether the first process is alive.
 #[derive(Debug, Drop)]

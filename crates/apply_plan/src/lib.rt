@@ -4,13 +4,25 @@
 //! A [`Handover`] keeps an [`Entry`] for each container with the CPUs that it is to have, and [`Handover::step`] makes
 //! the one write that is due: containers first let go of what is not theirs any more, then take what is.
 //! [`Handover::finish`] makes all of them.
+//!
+//! A [`DirectHandover`] comes to the same end in another order (make before break): a container takes its target at
+//! once where no rival holds any of it, and gives way only where containers wait for each other in a ring.
 #![tactic(auto)]
 
+mod cores;
+mod direct;
+mod direct_handover;
 mod entry;
+mod giving;
 mod handover;
 pub mod laws;
+mod overview;
+mod rings;
 mod scan;
+mod taking;
 mod walks;
 
+pub use cores::Cores;
+pub use direct_handover::DirectHandover;
 pub use entry::Entry;
 pub use handover::{Handover, Progress};

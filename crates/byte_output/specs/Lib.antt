@@ -2,4 +2,5 @@ pub mod Arguments
 pub mod Output
 pub mod Parts
 pub mod Sending
-pub mod Digits
+pub mod SendingLemmas
+pub mod DigitsLemmas

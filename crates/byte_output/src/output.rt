@@ -1,3 +1,4 @@
+//! Writes of which it is known what went out before an error.
 ghost use Rattle.std.specs.Prelude.{◌++◌, decimal};
 ghost use Rattle.byte_output.specs.Arguments.{number_text, word_text};
 ghost use Rattle.byte_output.specs.Output.{Writes};

@@ -7,7 +7,7 @@ use Rattle.std.proofs.lemmas.Bool.{eqb-true, eqb-false}
 use Rattle.std.proofs.lemmas.Option.{slice_get-get_or, slice_get_read, get_or_from_slice_get}
 use Rattle.std.proofs.lemmas.List.{get_or-take, length-take}
 use Rattle.faults.specs.First.{when, first_below}
-use Rattle.faults.specs.Tests.{passed, none_below, mapped}
+use Rattle.faults.specs.TestLaws.{passed, none_below, mapped}
 use Rattle.cpu_set.specs.Ids.{Ids, IsDisjoint}
 use Rattle.cpu_set.specs.Members.{InRange}
 use Rattle.cpu_set.specs.Least.{least_that}

@@ -12,18 +12,18 @@ use Rattle.std.proofs.lemmas.List.Folds.{find-append}
 use Rattle.std.proofs.lemmas.List.Sums.{sum_by-cons, AllPass-from_list_all}
 use Rattle.cpu_set.specs.Ids.{Ids}
 use Rattle.cpu_set.specs.Members.{InRange, cpus, members}
-use Rattle.cpu_set.specs.Pointwise.{contains-intersection}
+use Rattle.cpu_set.specs.PointwiseLaws.{contains-intersection}
 use Rattle.cpu_set.specs.declared.TheConstants.{CPU_LIMIT}
 use Rattle.certificate.specs.RowView.{RowView}
 use Rattle.certificate.specs.Weight.{weight_in}
 use Rattle.certificate.specs.Limits.{offers_fit, row_fits, values_fit}
 use Rattle.certificate.specs.declared.rows.Offer.{Offer}
 use Rattle.certificate.specs.declared.limits.TheConstants.{MAX_DEMAND, MAX_WEIGHT, MAX_AMOUNT}
-use Rattle.certificate.specs.Tests.{and_left, and_right}
-use Rattle.certificate.specs.Sums.{sum_by_none, sum_by_same, sum_by_plus, sum_by-filter, sum_by-constant}
-use Rattle.certificate.specs.Cpus.{sum_by-cpus-le, len-times, length-cpus}
-use Rattle.certificate.specs.ApartTest.{apart_at}
-use Rattle.certificate.specs.Offers.{is_some-find}
+use Rattle.certificate.specs.TestLaws.{true_left, true_right}
+use Rattle.certificate.specs.SumLaws.{sum_by_none, sum_by_same, sum_by_plus, sum_by-filter, sum_by-constant}
+use Rattle.certificate.specs.CpuLaws.{sum_by-cpus-le, len-times, length-cpus}
+use Rattle.certificate.specs.ApartTestLemmas.{apart_at}
+use Rattle.certificate.specs.OfferLemmas.{is_some-find}
 use Rattle.certificate.specs.OfferLaws.{passes_at, offers_apart}
 
 module _ {A B : Type 0} (f : A × B → ℕ) where
@@ -47,11 +47,11 @@ module _ {A B : Type 0} (f : A × B → ℕ) where
 pub list_all-take : {A : Type 0} (p : A → Bool) (k : ℕ) (xs : List A) → list_all p xs ≡ true → list_all p (take k xs) ≡ true
 list_all-take p zero xs all = refl
 list_all-take p (suc k) [] all = refl
-list_all-take p (suc k) (x ∷ xs) all = and_from _ _ (and_left _ _ all) (list_all-take p k xs (and_right _ _ all))
+list_all-take p (suc k) (x ∷ xs) all = and_from _ _ (true_left _ _ all) (list_all-take p k xs (true_right _ _ all))
 
 pub demand_small : (row : RowView) → row_fits row ≡ true → row.demand ≤ MAX_DEMAND
 unfolding row_fits
-demand_small row fit = leb-true _ _ (and_left _ _ (and_right _ _ fit))
+demand_small row fit = leb-true _ _ (true_left _ _ (true_right _ _ fit))
 
 -- what one row is worth is within the limits' product
 pub worth_small :
@@ -66,7 +66,7 @@ worth_small rows values k row fit values_are same lt is =
 weight_small : (offers : List Offer) (c m : ℕ) → list_all (λ (o : Offer). nat_le o.weight m) offers ≡ true → unwrap_or (weight_in offers c) 0 ≤ m
 weight_small [] c m small = omega arith
 weight_small (o ∷ offers) c m small =
-    either (set.contains o.cpus c) (leb-true _ _ (and_left _ _ small)) (weight_small offers c m (and_right _ _ small))
+    either (set.contains o.cpus c) (leb-true _ _ (true_left _ _ small)) (weight_small offers c m (true_right _ _ small))
   where
     either :
         (b : Bool) → o.weight ≤ m → unwrap_or (weight_in offers c) 0 ≤ m
@@ -76,7 +76,7 @@ weight_small (o ∷ offers) c m small =
 
 weights_small : (offers : List Offer) → offers_fit offers ≡ true → list_all (λ (o : Offer). nat_le o.weight MAX_WEIGHT) offers ≡ true
 unfolding offers_fit
-weights_small offers fit = and_left _ _ fit
+weights_small offers fit = true_left _ _ fit
 
 part_of : (w m : ℕ) (b : Bool) → w ≤ m → cond b w 0 ≤ m
 part_of w m true small = small

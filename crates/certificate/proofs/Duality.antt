@@ -15,9 +15,9 @@ use Rattle.certificate.specs.IsBound.{IsValueOf, worth}
 use Rattle.certificate.specs.PlanFault.{is_held}
 use Rattle.certificate.specs.Laws.{NoPlanBelowBound}
 use Rattle.certificate.specs.declared.price_lists.Price.{Price}
-use Rattle.certificate.specs.Sums.{sum_by_plus, sum_by-filter}
-use Rattle.certificate.specs.Cpus.{sum_by-cpus-le, len-times}
-use Rattle.certificate.specs.Apart.{sums_of_sets}
+use Rattle.certificate.specs.SumLaws.{sum_by_plus, sum_by-filter}
+use Rattle.certificate.specs.CpuLaws.{sum_by-cpus-le, len-times}
+use Rattle.certificate.specs.ApartLemmas.{sums_of_sets}
 
 -- the prices of a set's CPUs, summed
 abbrev prices_of : List Price → Ids → ℕ

@@ -10,7 +10,7 @@ use Rattle.std.proofs.lemmas.List.{get_or_default, get_or-take, length-take}
 use Rattle.std.proofs.lemmas.List.Folds.{list_any_at, Any-from_list_any}
 use Rattle.faults.specs.First.{when}
 use Rattle.faults.specs.FirstLaws.{first_below-none}
-use Rattle.faults.specs.Tests.{never_both, without, none_left, none_of_both, unmapped, passed, none_below}
+use Rattle.faults.specs.TestLaws.{never_both, without, none_left, none_of_both, unmapped, passed, none_below}
 use Rattle.cpu_set.specs.Ids.{Ids, IsDisjoint}
 use Rattle.cpu_set.specs.Members.{InRange}
 use Rattle.cpu_set.specs.Least.{least_that}

@@ -17,9 +17,9 @@ use Rattle.certificate.specs.IsPlan.{Meets, IsPlan}
 use Rattle.certificate.specs.IsShortage.{chosen, asked, is_offered, offered}
 use Rattle.certificate.specs.PlanFault.{is_held}
 use Rattle.certificate.specs.Laws.{ShortageLeavesNoPlan}
-use Rattle.certificate.specs.Sums.{sum_by-constant}
-use Rattle.certificate.specs.Cpus.{sum_by-cpus-le}
-use Rattle.certificate.specs.Apart.{sums_of_sets}
+use Rattle.certificate.specs.SumLaws.{sum_by-constant}
+use Rattle.certificate.specs.CpuLaws.{sum_by-cpus-le}
+use Rattle.certificate.specs.ApartLemmas.{sums_of_sets}
 
 -- ---- the elements of some places
 

@@ -9,9 +9,9 @@ use Rattle.certificate.specs.RowView.{RowView}
 use Rattle.certificate.specs.PricesView.{PricesView}
 use Rattle.certificate.specs.Limits.{row_fits, rows_fit, values_fit, prices_fit, is_within_limits, is_shortage_within_limits}
 use Rattle.certificate.specs.declared.limits.TheConstants.{MAX_ROWS}
-use Rattle.certificate.specs.Tests.{and_left, and_right}
+use Rattle.certificate.specs.TestLaws.{true_left, true_right}
 use Rattle.certificate.proofs.Rising.{is_rising-says, is_rising-true}
-use Rattle.certificate.specs.RisingNumbers.{few_numbers}
+use Rattle.certificate.specs.RisingNumberLaws.{few_numbers}
 
 pub record AreWithin (rows : List RowView) (sets : List Ids) (prices : PricesView) : Type 0 where
   pub few : length rows ≤ MAX_ROWS
@@ -24,17 +24,17 @@ pub record AreWithin (rows : List RowView) (sets : List Ids) (prices : PricesVie
 pub limit_facts : (rows : List RowView) (sets : List Ids) (prices : PricesView) → is_within_limits rows sets prices ≡ true → AreWithin rows sets prices
 unfolding is_within_limits rows_fit
 limit_facts rows sets prices within =
-    let rows_are = and_left _ _ within in
-    let two = and_right _ _ within in
-    let three = and_right _ _ two in
-    let four = and_right _ _ three in
+    let rows_are = true_left _ _ within in
+    let two = true_right _ _ within in
+    let three = true_right _ _ two in
+    let four = true_right _ _ three in
     record {
-      few = leb-true _ _ (and_left _ _ rows_are);
-      rows_are = and_right _ _ rows_are;
-      same_sets = eqb-true _ _ (and_left _ _ two);
-      same_values = eqb-true _ _ (and_left _ _ three);
-      values_are = and_left _ _ four;
-      prices_are = and_right _ _ four;
+      few = leb-true _ _ (true_left _ _ rows_are);
+      rows_are = true_right _ _ rows_are;
+      same_sets = eqb-true _ _ (true_left _ _ two);
+      same_values = eqb-true _ _ (true_left _ _ three);
+      values_are = true_left _ _ four;
+      prices_are = true_right _ _ four;
     }
 
 -- rows within their limits, and the members number some of them
@@ -48,15 +48,15 @@ pub record AreNumbered (rows : List RowView) (members : List ℕ) : Type 0 where
 pub number_facts : (rows : List RowView) (members : List ℕ) → is_shortage_within_limits rows members ≡ true → AreNumbered rows members
 unfolding is_shortage_within_limits rows_fit
 number_facts rows members within =
-    let rows_are : rows_fit rows ≡ true = and_left _ _ within in
-    let numbers = and_right _ _ within in
-    let rising : IsStrictlyIncreasing members = is_rising-says members (and_left _ _ numbers) in
+    let rows_are : rows_fit rows ≡ true = true_left _ _ within in
+    let numbers = true_right _ _ within in
+    let rising : IsStrictlyIncreasing members = is_rising-says members (true_left _ _ numbers) in
     let there : All (λ k. k < length rows) members =
-    λ i d lt. ltb-true _ _ (AllPass-from_list_all (λ k. nat_lt k (length rows)) members (and_right _ _ numbers) i d lt) in
+    λ i d lt. ltb-true _ _ (AllPass-from_list_all (λ k. nat_lt k (length rows)) members (true_right _ _ numbers) i d lt) in
     record {
       fit = rows_are;
-      rows_are = and_right _ _ rows_are;
-      few = within_limit (few_numbers members (length rows) rising there) (leb-true _ _ (and_left _ _ rows_are));
+      rows_are = true_right _ _ rows_are;
+      few = within_limit (few_numbers members (length rows) rising there) (leb-true _ _ (true_left _ _ rows_are));
       rising = rising;
       there = there;
     }

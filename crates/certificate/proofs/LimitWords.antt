@@ -12,8 +12,8 @@ use Rattle.certificate.specs.AreWithin.{IsRowWithin, AreRowsWithin, AreWithin, R
 use Rattle.certificate.specs.declared.rows.Offer.{Offer}
 use Rattle.certificate.specs.declared.price_lists.Price.{Price}
 use Rattle.certificate.specs.declared.limits.TheConstants.{MAX_WEIGHT, MAX_AMOUNT}
-use Rattle.certificate.specs.Tests.{and_left, and_right}
-use Rattle.certificate.specs.ApartTest.{is_disjoint-says, is_disjoint-true}
+use Rattle.certificate.specs.TestLaws.{true_left, true_right}
+use Rattle.certificate.specs.ApartTestLemmas.{is_disjoint-says, is_disjoint-true}
 
 module _ {A : Type 0} (set_of : A → Ids) where
   abbrev pub AreApart : List A → Type 0
@@ -23,8 +23,8 @@ module _ {A : Type 0} (set_of : A → Ids) where
   are_apart-says [] e = λ i j d lt below. absurd (omega arith)
   are_apart-says (x ∷ xs) e =
       AllPairs-cons (λ y z. IsDisjoint (set_of y) (set_of z)) x xs
-      (λ i d lt. is_disjoint-says (set_of x) (set_of (get_or xs i d)) (AllPass-from_list_all (λ y. is_disjoint (set_of x) (set_of y)) xs (and_left _ _ e) i d lt))
-      (are_apart-says xs (and_right _ _ e))
+      (λ i d lt. is_disjoint-says (set_of x) (set_of (get_or xs i d)) (AllPass-from_list_all (λ y. is_disjoint (set_of x) (set_of y)) xs (true_left _ _ e) i d lt))
+      (are_apart-says xs (true_right _ _ e))
 
   are_apart-true : (xs : List A) → AreApart xs → are_apart set_of xs ≡ true
   are_apart-true [] apart = refl
@@ -43,13 +43,13 @@ at_most-true f most xs all = list_all-from_AllPass (λ x. nat_le (f x) most) xs 
 row_fits-says : (row : RowView) → row_fits row ≡ true → IsRowWithin row
 unfolding row_fits offers_fit
 row_fits-says row fit =
-    let more = and_right _ _ fit in
-    let offers = and_right _ _ more in
+    let more = true_right _ _ fit in
+    let offers = true_right _ _ more in
     record {
-      some = leb-true _ _ (and_left _ _ fit);
-      demand = leb-true _ _ (and_left _ _ more);
-      weights = at_most-says (λ (o : Offer). o.weight) MAX_WEIGHT row.offers (and_left _ _ offers);
-      apart = are_apart-says (λ (o : Offer). o.cpus) row.offers (and_right _ _ offers);
+      some = leb-true _ _ (true_left _ _ fit);
+      demand = leb-true _ _ (true_left _ _ more);
+      weights = at_most-says (λ (o : Offer). o.weight) MAX_WEIGHT row.offers (true_left _ _ offers);
+      apart = are_apart-says (λ (o : Offer). o.cpus) row.offers (true_right _ _ offers);
     }
 
 row_fits-true : (row : RowView) → IsRowWithin row → row_fits row ≡ true
@@ -61,8 +61,8 @@ row_fits-true row is =
 rows_fit-says : (rows : List RowView) → rows_fit rows ≡ true → AreRowsWithin rows
 unfolding rows_fit
 rows_fit-says rows fit = record {
-  few = leb-true _ _ (and_left _ _ fit);
-  each = λ i d lt. row_fits-says _ (AllPass-from_list_all row_fits rows (and_right _ _ fit) i d lt);
+  few = leb-true _ _ (true_left _ _ fit);
+  each = λ i d lt. row_fits-says _ (AllPass-from_list_all row_fits rows (true_right _ _ fit) i d lt);
 }
 
 rows_fit-true : (rows : List RowView) → AreRowsWithin rows → rows_fit rows ≡ true
@@ -76,17 +76,17 @@ rows_fit_means rows = (rows_fit-says rows, rows_fit-true rows)
 limits-says : (rows : List RowView) (sets : List Ids) (prices : PricesView) → is_within_limits rows sets prices ≡ true → AreWithin rows sets prices
 unfolding is_within_limits prices_fit
 limits-says rows sets prices within =
-    let two = and_right _ _ within in
-    let three = and_right _ _ two in
-    let four = and_right _ _ three in
-    let last = and_right _ _ four in
+    let two = true_right _ _ within in
+    let three = true_right _ _ two in
+    let four = true_right _ _ three in
+    let last = true_right _ _ four in
     record {
-      rows_are = rows_fit-says rows (and_left _ _ within);
-      same_sets = eqb-true _ _ (and_left _ _ two);
-      same_values = eqb-true _ _ (and_left _ _ three);
-      values = at_most-says (λ v. v) MAX_AMOUNT prices.values (and_left _ _ four);
-      amounts = at_most-says (λ (p : Price). p.amount) MAX_AMOUNT prices.of_cpu (and_left _ _ last);
-      apart = are_apart-says (λ (p : Price). p.cpus) prices.of_cpu (and_right _ _ last);
+      rows_are = rows_fit-says rows (true_left _ _ within);
+      same_sets = eqb-true _ _ (true_left _ _ two);
+      same_values = eqb-true _ _ (true_left _ _ three);
+      values = at_most-says (λ v. v) MAX_AMOUNT prices.values (true_left _ _ four);
+      amounts = at_most-says (λ (p : Price). p.amount) MAX_AMOUNT prices.of_cpu (true_left _ _ last);
+      apart = are_apart-says (λ (p : Price). p.cpus) prices.of_cpu (true_right _ _ last);
     }
 
 limits-true : (rows : List RowView) (sets : List Ids) (prices : PricesView) → AreWithin rows sets prices → is_within_limits rows sets prices ≡ true

@@ -6,7 +6,7 @@ use Rattle.std.specs.Ordering.{nat_cmp}
 use Rattle.std.specs.FinSet as set
 use Rattle.cpu_set.specs.Members.{cpus}
 use Rattle.cpu_set.specs.Least.{least_that}
-use Rattle.cpu_set.specs.ListedSets.{is_in, contains-listed}
+use Rattle.cpu_set.specs.ListedSetLemmas.{is_in, contains-listed}
 use Rattle.certificate.specs.Weight.{weight_in}
 use Rattle.certificate.specs.Price.{price}
 use Rattle.certificate.specs.Worked.{offer, price_of}

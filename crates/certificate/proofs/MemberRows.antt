@@ -9,7 +9,7 @@ use Rattle.std.proofs.lemmas.List.Folds.{list_any-append}
 use Rattle.std.proofs.lemmas.List.Sums.{sum_by-append}
 use Rattle.cpu_set.specs.Ids.{Ids}
 use Rattle.cpu_set.specs.Members.{cpus}
-use Rattle.cpu_set.specs.Pointwise.{contains-union}
+use Rattle.cpu_set.specs.PointwiseLaws.{contains-union}
 use Rattle.certificate.specs.RowView.{RowView}
 use Rattle.certificate.specs.Weight.{weight}
 use Rattle.certificate.specs.IsShortage.{chosen, asked, is_offered, offered}

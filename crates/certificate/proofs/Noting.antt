@@ -1,6 +1,6 @@
 -- Amounts noted in a table, range by range.
 use Rattle.certificate.proofs.PriceSums.{price_more, prices_apart}
-use Rattle.certificate.specs.ApartTest.{apart_at, is_in_one}
+use Rattle.certificate.specs.ApartTestLemmas.{apart_at, is_in_one}
 use Rattle.certificate.specs.AreAmounts.{AreAmounts}
 use Rattle.certificate.specs.Limits.{are_apart, prices_fit}
 use Rattle.certificate.specs.Price.{price}

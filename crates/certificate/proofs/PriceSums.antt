@@ -13,17 +13,17 @@ use Rattle.certificate.specs.Price.{price, all_prices}
 use Rattle.certificate.specs.Limits.{are_apart, prices_fit}
 use Rattle.certificate.specs.declared.price_lists.Price.{Price}
 use Rattle.certificate.specs.declared.limits.TheConstants.{MAX_AMOUNT}
-use Rattle.certificate.specs.Tests.{and_left, and_right}
-use Rattle.certificate.specs.Sums.{sum_by_none, sum_by_same, sum_by_plus, sum_by-constant}
-use Rattle.certificate.specs.Cpus.{sum_by-cpus-le, len-times, length-cpus}
-use Rattle.certificate.specs.ApartTest.{apart_at}
-use Rattle.certificate.specs.Offers.{is_some-find}
+use Rattle.certificate.specs.TestLaws.{true_left, true_right}
+use Rattle.certificate.specs.SumLaws.{sum_by_none, sum_by_same, sum_by_plus, sum_by-constant}
+use Rattle.certificate.specs.CpuLaws.{sum_by-cpus-le, len-times, length-cpus}
+use Rattle.certificate.specs.ApartTestLemmas.{apart_at}
+use Rattle.certificate.specs.OfferLemmas.{is_some-find}
 use Rattle.certificate.proofs.CostSums.{list_all-take}
 use Rattle.certificate.specs.OfferLaws.{passes_at}
 
 pub prices_apart : (prices : List Price) → prices_fit prices ≡ true → are_apart (λ (p : Price). p.cpus) prices ≡ true
 unfolding prices_fit
-prices_apart prices fit = and_right _ _ fit
+prices_apart prices fit = true_right _ _ fit
 
 one_added :
     (p : Price) (b : Bool) (before : Option Price) → (b ≡ true → is_some before ≡ false)
@@ -53,7 +53,7 @@ prices_more prices k p lt is fit in_range =
 
 small_of : (prices : List Price) (c m : ℕ) → list_all (λ (p : Price). nat_le p.amount m) prices ≡ true → price prices c ≤ m
 small_of [] c m small = omega arith
-small_of (p ∷ prices) c m small = either (set.contains p.cpus c) (leb-true _ _ (and_left _ _ small)) (small_of prices c m (and_right _ _ small))
+small_of (p ∷ prices) c m small = either (set.contains p.cpus c) (leb-true _ _ (true_left _ _ small)) (small_of prices c m (true_right _ _ small))
   where
     either :
         (b : Bool) → p.amount ≤ m → price prices c ≤ m
@@ -63,7 +63,7 @@ small_of (p ∷ prices) c m small = either (set.contains p.cpus c) (leb-true _ _
 
 amounts_small : (prices : List Price) → prices_fit prices ≡ true → list_all (λ (p : Price). nat_le p.amount MAX_AMOUNT) prices ≡ true
 unfolding prices_fit
-amounts_small prices fit = and_left _ _ fit
+amounts_small prices fit = true_left _ _ fit
 
 pub amount_small : (prices : List Price) (k : ℕ) (p : Price) → prices_fit prices ≡ true → k < length prices → p ≡ get_or prices k p → p.amount ≤ MAX_AMOUNT
 amount_small prices k p fit lt is =

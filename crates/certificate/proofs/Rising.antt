@@ -6,13 +6,13 @@ use Rattle.std.proofs.lemmas.Bool.{ltb-true, lt-ltb, false_from_ne_true, both_wa
 use Rattle.std.proofs.lemmas.List.Kept.{AllPairs-from_increasing, AllPairs-cons}
 use Rattle.std.proofs.lemmas.List.Sums.{AllPass-from_list_all, list_all-from_AllPass}
 use Rattle.certificate.specs.Limits.{is_rising}
-use Rattle.certificate.specs.Tests.{and_left, and_right}
+use Rattle.certificate.specs.TestLaws.{true_left, true_right}
 
 rising_pairs : (ks : List ℕ) → is_rising ks ≡ true → AllPairs (λ x y. x < y) ks
 rising_pairs [] e = λ i j d lt below. absurd (omega arith)
 rising_pairs (k ∷ ks) e =
-    AllPairs-cons (λ x y. x < y) k ks (λ i d lt. ltb-true _ _ (AllPass-from_list_all (nat_lt k) ks (and_left _ _ e) i d lt))
-    (rising_pairs ks (and_right _ _ e))
+    AllPairs-cons (λ x y. x < y) k ks (λ i d lt. ltb-true _ _ (AllPass-from_list_all (nat_lt k) ks (true_left _ _ e) i d lt))
+    (rising_pairs ks (true_right _ _ e))
 
 pairs_rising : (ks : List ℕ) → AllPairs (λ x y. x < y) ks → is_rising ks ≡ true
 pairs_rising [] pairs = refl

@@ -6,7 +6,7 @@ use Rattle.std.proofs.lemmas.List.{get_or_default}
 use Rattle.cpu_set.specs.Ids.{Ids}
 use Rattle.cpu_set.specs.Least.{least_that}
 use Rattle.cpu_set.specs.LeastLaws.{IsFirstOf, least-first}
-use Rattle.cpu_set.specs.Pointwise.{contains-intersection, contains-difference}
+use Rattle.cpu_set.specs.PointwiseLaws.{contains-intersection, contains-difference}
 use Rattle.certificate.specs.RowView.{RowView}
 use Rattle.certificate.specs.Weight.{weight}
 use Rattle.certificate.specs.PlanFault.{is_not_allowed, at_both, is_held, twice_fault}

@@ -8,7 +8,7 @@ use Rattle.certificate.specs.RowView.{RowView}
 use Rattle.certificate.specs.Cost.{row_cost}
 use Rattle.certificate.specs.IsPlan.{Meets, IsPlan}
 use Rattle.certificate.specs.WeighSame.{WeighSame, SameWeightsSamePlans, SameWeightsSameCosts}
-use Rattle.certificate.specs.Sums.{sum_by_same}
+use Rattle.certificate.specs.SumLaws.{sum_by_same}
 
 flipped : (a b : RowView) → WeighSame a b → WeighSame b a
 flipped a b same = record { demand = sym same.demand; weights = λ c. sym (same.weights c) }

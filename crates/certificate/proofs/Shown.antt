@@ -3,7 +3,7 @@ use Rattle.std.proofs.Common.{◌≡◌, ℕ, not, Some, None, Result, Ok, Err, 
 use Rattle.std.specs.Result.{result_err}
 use Rattle.std.proofs.lemmas.Bool.{ltb-true, ltb-false, lt-ltb}
 use Rattle.faults.specs.First.{when}
-use Rattle.faults.specs.Tests.{none_of_both, passed}
+use Rattle.faults.specs.TestLaws.{none_of_both, passed}
 use Rattle.certificate.specs.RowView.{RowView}
 use Rattle.certificate.specs.IsShortage.{chosen, asked, offered, HasNoPlan}
 use Rattle.certificate.specs.IsShown.{IsShown}

@@ -6,8 +6,8 @@ use Rattle.std.specs.Cmp.{nat_cmp_total}
 use Rattle.std.proofs.lemmas.Bool.{eqb-true}
 use Rattle.cpu_set.specs.Ids.{Ids}
 use Rattle.cpu_set.specs.Members.{IsCpu, InRange}
-use Rattle.cpu_set.specs.Pointwise.{same_members, contains-empty, contains-insert, contains-union, contains-intersection}
-use Rattle.certificate.specs.Tests.{and_right}
+use Rattle.cpu_set.specs.PointwiseLaws.{same_members, contains-empty, contains-insert, contains-union, contains-intersection}
+use Rattle.certificate.specs.TestLaws.{true_right}
 
 -- the set has this number alone
 abbrev pub IsSingle : Ids → ℕ → Type 0
@@ -57,5 +57,5 @@ len-single s t n single = by_cases (set.contains s n) refl
 
 pub in_range-single : (s t : Ids) (n : ℕ) → IsSingle t n → IsCpu n → InRange (set.intersection s t)
 in_range-single s t n single is_cpu q member =
-    let same : q ≡ n = eqb-true q n (and_right _ _ (sym (both_of s t n q single) ∙ member)) in
+    let same : q ≡ n = eqb-true q n (true_right _ _ (sym (both_of s t n q single) ∙ member)) in
     rw same is_cpu

@@ -1,5 +1,5 @@
 -- Where a value is above weight and price.
-use Rattle.certificate.specs.ApartTest.{is_disjoint-says, is_in_one}
+use Rattle.certificate.specs.ApartTestLemmas.{is_disjoint-says, is_in_one}
 use Rattle.certificate.specs.IsOfferTooHigh.{is_offer_too_high}
 use Rattle.certificate.specs.Lesser.{lesser}
 use Rattle.certificate.specs.Limits.{are_apart, is_disjoint, row_fits}
@@ -7,7 +7,7 @@ use Rattle.certificate.specs.OfferLaws.{offers_apart, row_offers_fit}
 use Rattle.certificate.specs.PlanFault.{is_too_high}
 use Rattle.certificate.specs.Price.{price}
 use Rattle.certificate.specs.RowView.{RowView}
-use Rattle.certificate.specs.Tests.{and_left, and_right}
+use Rattle.certificate.specs.TestLaws.{true_left, true_right}
 use Rattle.certificate.specs.declared.price_lists.Price.{Price}
 use Rattle.certificate.specs.declared.rows.Offer.{Offer}
 use Rattle.cpu_set.specs.Ids.{Ids}
@@ -28,8 +28,8 @@ module _ {A : Type 0} (set_of : A → Ids) (passes : A → Bool) (c : ℕ) where
   not_in_others : (x : A) (xs : List A) → list_all (λ y. is_disjoint (set_of x) (set_of y)) xs ≡ true → set.contains (set_of x) c ≡ true → is_in_one set_of xs c ≡ false
   not_in_others x [] clear has = refl
   not_in_others x (y ∷ xs) clear has =
-      let here : set.contains (set_of y) c ≡ false = false_from_ne_true _ (λ both. is_disjoint-says (set_of x) (set_of y) (and_left _ _ clear) c has both) in
-      rw here (not_in_others x xs (and_right _ _ clear) has)
+      let here : set.contains (set_of y) c ≡ false = false_from_ne_true _ (λ both. is_disjoint-says (set_of x) (set_of y) (true_left _ _ clear) c has both) in
+      rw here (not_in_others x xs (true_right _ _ clear) has)
 
   -- one of them has the number and passes
   abbrev pub one_passes : List A → Bool
@@ -50,12 +50,12 @@ module _ {A : Type 0} (set_of : A → Ids) (passes : A → Bool) (c : ℕ) where
   -- where they are apart, it is the first that has the number
   pub one_passes_first : (xs : List A) → are_apart set_of xs ≡ true → one_passes xs ≡ option_map_or passes (find (λ x. set.contains (set_of x) c) xs) false
   one_passes_first [] apart = refl
-  one_passes_first (x ∷ xs) apart = by_cases (set.contains (set_of x) c) refl (one_passes_first xs (and_right _ _ apart))
+  one_passes_first (x ∷ xs) apart = by_cases (set.contains (set_of x) c) refl (one_passes_first xs (true_right _ _ apart))
     where
       by_cases :
           (a : Bool) → set.contains (set_of x) c ≡ a → one_passes xs ≡ option_map_or passes (find (λ y. set.contains (set_of y) c) xs) false
           → ((a && passes x) || one_passes xs) ≡ option_map_or passes (cond a (Some x) (find (λ y. set.contains (set_of y) c) xs)) false
-      by_cases true has rest = rw (none_passes xs (not_in_others x xs (and_left _ _ apart) has)) (last (passes x))
+      by_cases true has rest = rw (none_passes xs (not_in_others x xs (true_left _ _ apart) has)) (last (passes x))
       by_cases false has rest = rest
 
 -- ---- offers

@@ -14,9 +14,10 @@ use Rattle.certificate.specs.IsLeast.{IsLeast}
 use Rattle.certificate.specs.IsProved.{IsProved}
 use Rattle.certificate.specs.IsShown.{IsShown}
 use Rattle.certificate.specs.PlanFault.{plan_fault}
-use Rattle.certificate.specs.Packed.{packed, distance_of, moves_of, packed-parts}
+use Rattle.certificate.specs.Packed.{packed, distance_of, moves_of}
+use Rattle.certificate.specs.PackedLemmas.{packed-parts}
 use Rattle.certificate.specs.Scaled.{are_scaled, by_distance, by_moves}
-use Rattle.certificate.specs.TwoCosts.{cost_splits, moves_are_few, least_is_nearest}
+use Rattle.certificate.specs.TwoCostLaws.{cost_splits, moves_are_few, least_is_nearest}
 use Rattle.certificate.specs.ShortageFault.{shortage_fault}
 use Rattle.certificate.specs.declared.fault.CheckFault.{CheckFault}
 use Rattle.certificate.specs.declared.fault.CheckFault.TheVariants.{BadProblem, Gap}

@@ -7,5 +7,5 @@ abbrev pub offer_of : ℕ × Ids → Offer
 offer_of p = record { weight = p.0; cpus = p.1 }
 
 -- the sets with their weights, as offers
-abbrev pub offers_of : List (ℕ × Ids) → List Offer
-offers_of sets = map offer_of sets
+abbrev pub as_offers : List (ℕ × Ids) → List Offer
+as_offers sets = map offer_of sets

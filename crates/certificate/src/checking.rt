@@ -30,6 +30,17 @@ pub enum Verdict {
 /// # Errors
 /// `BadProblem` where weights count moves and one is more than one move; then those of [`check_plan`], then `Gap` (the
 /// duality gap) where the written total isn't the plan's cost; for a shortage those of [`check_shortage`].
+///
+/// ```text
+/// // Row a: CPU 1 at weight 10, CPU 2 at 11. Row b: CPU 1 at 12, CPU 2 at 50. Each asks for one.
+/// let plan = Plan { sets };         // a has CPU 2, b has CPU 1
+/// let prices = Prices { values, of_cpu };    // 11 and 13; CPU 1 has the price 1
+/// let weights = Weights::Plain;
+/// check(&Certificate::Plan { problem, plan, prices, total: 23, weights })    // Ok(Verdict::Plan(23))
+/// check(&Certificate::Plan { problem, plan, prices, total: 24, weights })    // Err(CheckFault::Gap)
+/// ```
+///
+/// `tests/certificates.sh` has the program check this certificate, and others that differ from it in a line.
 pub fn check(certificate: &Certificate) -> Result<Verdict, CheckFault>
     // A yes: values and prices prove the plan to cost the total, or the members are short by these counts. In version 2
     // each weight is a distance, and one move at most.

@@ -12,7 +12,7 @@ ghost use Rattle.certificate.specs.Price.{all_prices};
 ghost use Rattle.certificate.specs.Limits.{offers_fit, row_fits, values_fit, prices_fit};
 ghost use Rattle.certificate.specs.declared.rows.Offer.{Offer};
 
-use crate::single::only_cpu;
+use crate::only_cpu::only_cpu;
 use crate::{MAX_AMOUNT, MAX_DEMAND, MAX_ROWS, MAX_WEIGHT, Offers, PriceList, Prices, Row};
 use cpu_set::{CPU_LIMIT, IdSet};
 

@@ -9,7 +9,8 @@
 //! has.
 //!
 //! A [`Certificate`] is a problem with one of both, and [`check`] checks it, with the total that its writer claims. So
-//! whoever trusts the check reads this crate alone.
+//! whoever asks what a yes of the check means needs no solver and no grammar: the definitions that say it are here, of
+//! sets of CPUs in `cpu_set`, and of sets with a number each in `tagged_sets`.
 //!
 //! # Proved
 //!
@@ -32,6 +33,7 @@ mod limit_checks;
 mod limits;
 mod members;
 mod offers;
+mod only_cpu;
 mod packed;
 mod plans;
 mod price_lists;
@@ -41,7 +43,6 @@ mod rows;
 mod scaled;
 mod set_checks;
 mod shortages;
-mod single;
 mod value_checks;
 mod weights;
 

@@ -1,3 +1,4 @@
+//! What the check takes at most, so that all sums fit their types.
 use cpu_set::CPU_LIMIT;
 
 /// A problem has at most so many rows.

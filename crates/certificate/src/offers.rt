@@ -29,15 +29,15 @@ impl Model for Offers {
     ghost use Rattle.certificate.specs.RowView.{offers_code};
     ghost use Rattle.certificate.specs.declared.rows.Offer.{Offer};
     ghost use Rattle.certificate.specs.RisingOffers.{AreRising};
-    ghost use Rattle.certificate.specs.OffersOf.{offers_of};
+    ghost use Rattle.certificate.specs.OffersOf.{as_offers};
 
     ghost Value = { List Offer };
 
     ghost coded = { offers_code };
 
-    ghost view = { λ a. offers_of a.sets };
+    ghost view = { λ a. as_offers a.sets };
 
-    ghost invariant = { λ a. IsTrue a.is_rising ↔ AreRising (offers_of a.sets) };
+    ghost invariant = { λ a. IsTrue a.is_rising ↔ AreRising (as_offers a.sets) };
 }
 
 impl Offers {

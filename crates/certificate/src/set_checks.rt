@@ -4,7 +4,7 @@ ghost use Rattle.std.specs.FinSet as set;
 ghost use Rattle.cpu_set.specs.Ids.{Ids, IsDisjoint};
 ghost use Rattle.certificate.specs.Limits.{are_apart};
 
-use crate::single::only_cpu;
+use crate::only_cpu::only_cpu;
 use cpu_set::IdSet;
 use tagged_sets::TaggedSets;
 

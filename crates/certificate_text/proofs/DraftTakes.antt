@@ -4,7 +4,7 @@ use Rattle.std.proofs.lemmas.Bool.{cond-true, cond-false}
 use Rattle.std.specs.Prelude.{slice_get, is_some, IsSome}
 use Rattle.std.specs.Str.{bytes_eq}
 use Rattle.std.proofs.lemmas.Option.{none-some, same_Some}
-use Rattle.faults.specs.Tests.{left_over}
+use Rattle.faults.specs.TestLaws.{left_over}
 use Rattle.certificate.specs.RowView.{RowView}
 use Rattle.certificate_text.specs.declared.stage.Stage.{Stage}
 use Rattle.certificate_text.specs.declared.stage.Stage.TheVariants.{Start, Body, Totalled, Planned, Named, Shown}

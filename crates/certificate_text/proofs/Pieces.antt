@@ -6,7 +6,7 @@ use Rattle.std.proofs.lemmas.Grind.{flat_map-append}
 use Rattle.std.proofs.lemmas.List.{take_more}
 use Rattle.std.specs.Io.KnownBytes.{Appends}
 use Rattle.byte_output.specs.Output.{SendsFront}
-use Rattle.byte_output.specs.Sending.{sends_part}
+use Rattle.byte_output.specs.SendingLemmas.{sends_part}
 
 -- all of the parts before one that was read went out, and a prefix of that one
 pub sends_item : {A : Type 0} (f : A → List ℕ) (old mid new : Option (List ℕ)) (xs : List A) (i : ℕ) (x : A) → i < length xs

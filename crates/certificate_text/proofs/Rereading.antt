@@ -14,7 +14,8 @@ use Rattle.cpu_set.specs.declared.TheConstants.{CPU_LIMIT}
 use Rattle.cpu_list.specs.CanonicalList.{list_text}
 use Rattle.cpu_list.specs.CanonicalLaws.{TextIsCanonical, CanonicalReadsAgain, TextLacks}
 use Rattle.certificate.specs.RowView.{RowView}
-use Rattle.certificate.specs.Packed.{distance_of, moves_of, packed-parts}
+use Rattle.certificate.specs.Packed.{distance_of, moves_of}
+use Rattle.certificate.specs.PackedLemmas.{packed-parts}
 use Rattle.certificate.specs.declared.weights.Weights.{Weights}
 use Rattle.certificate.specs.declared.weights.Weights.TheVariants.{Plain, WithMoves}
 use Rattle.certificate.specs.declared.rows.Offer.{Offer}

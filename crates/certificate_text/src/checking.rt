@@ -1,3 +1,4 @@
+//! From a certificate's text to the verdict of the check.
 ghost use Rattle.std.specs.Prelude.{IfOk, IfErr};
 ghost use Rattle.certificate.specs.declared.checking.Verdict.{Verdict};
 ghost use Rattle.certificate_text.specs.Verdict.{IsVerdict, SaysLeast, IsVerdictError, IsAnswered};

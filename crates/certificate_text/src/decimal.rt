@@ -1,3 +1,4 @@
+//! Numbers as words of decimal digits, of which each number has one.
 ghost use Rattle.std.specs.Prelude.{◌≡◌, ℕ, ◌+◌, ◌*◌, ◌<◌, ◌^◌, SomeIff, MatchOption, true};
 ghost use Rattle.std.specs.Char.{is_ascii_digit, digit_value};
 ghost use Rattle.certificate_text.specs.NumberWord.{IsNumber};

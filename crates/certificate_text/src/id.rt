@@ -1,3 +1,4 @@
+//! The ids of rows.
 ghost use Rattle.std.specs.Prelude.{◌≡◌, ◌↔◌, IsTrue, IfOk, IfErr, string_bytes};
 ghost use Rattle.std.specs.List.{list_all};
 ghost use Rattle.faults.specs.declared.or_memory.OrMemory.TheVariants.{Memory};

@@ -1,3 +1,4 @@
+//! The words of each kind of line, behind the one that names the kind.
 ghost use Rattle.std.specs.Prelude.{◌≡◌, ℕ, List, [], ◌∷◌, MatchOption, IfOk, IfErr};
 ghost use Rattle.cpu_set.specs.Ids.{Ids};
 ghost use Rattle.certificate.specs.RowView.{RowView};

@@ -1,3 +1,4 @@
+//! Lists of CPUs as words.
 ghost use Rattle.std.specs.Prelude.{MatchOption};
 ghost use Rattle.cpu_set.specs.Ids.{Ids};
 ghost use Rattle.certificate_text.specs.ListWord.{IsListWord};

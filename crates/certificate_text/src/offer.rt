@@ -1,3 +1,4 @@
+//! The offers of a row's line.
 ghost use Rattle.std.specs.Prelude.{◌≡◌, false, IsTrue, MatchOption, IfOk, IfErr, List, [], ◌∷◌, ◌++◌};
 ghost use Rattle.std.specs.List.{AllZip};
 ghost use Rattle.certificate.specs.declared.rows.Offer.{Offer};
@@ -47,8 +48,9 @@ pub fn read_offers(alloc: Global, text: &[u8]) -> Result<Offers, OrMemory<BadLin
     Ok(offers)
 }
 
-/// Adds the offer that the word WEIGHT:LIST spells, unless the allocation of one failed before; says whether it was, or is
-/// for this one. A plain list is read as its ranges, into `ranges`: most lists are plain, and no set is made of them.
+/// Adds the offer that the word WEIGHT:LIST spells, unless the allocation of one failed before; says whether it was, or
+/// is for this one. A plain list is read as its ranges, into `ranges`: most lists are plain, and no set is made of
+/// them.
 fn add_offer(
     offers: &mut Offers,
     word: &[u8],

@@ -8,7 +8,7 @@ ghost use Rattle.certificate_text.specs.RowTaken.{TakesRow};
 use crate::bad_line::BadLine;
 use crate::draft::Draft;
 use crate::line::{Line, read_line, second_word};
-use crate::reading::{BadText, row_fault};
+use crate::reading::{BadText, no_room_for_row};
 use crate::split_once::split_once;
 use certificate::Problem;
 use faults::OrMemory;
@@ -82,7 +82,7 @@ fn take_row<'a>(
             };
             rows.add_row(second_word(line), row)
         }
-        Err(OrMemory::Memory) => Err(row_fault(rows, line)),
+        Err(OrMemory::Memory) => Err(no_room_for_row(rows, line)),
         Err(OrMemory::Fault(BadLine)) => Err(OrMemory::Fault(BadLine)),
     }
 }

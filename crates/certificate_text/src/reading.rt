@@ -1,3 +1,4 @@
+//! From a certificate's text to the certificate, a line at a time.
 ghost use Rattle.std.specs.Prelude.{Err, IfOk, IfErr};
 ghost use Rattle.certificate.specs.RowView.{RowView};
 ghost use Rattle.certificate.specs.declared.certificates.Certificate.{Certificate};
@@ -55,10 +56,7 @@ fn read_text_body(alloc: Global, text: &[u8]) -> Result<Certificate, OrMemory<Ba
     ensures ok { IfOk result (λ c. IsText text.now c) }
     ensures error { IfErr result (λ e. IsTextError text.now e) }
 {
-    let draft = match read_draft(alloc, text) {
-        Ok(draft) => draft,
-        Err(fault) => return Err(fault),
-    };
+    let draft = read_draft(alloc, text)?;
     match draft.finish(alloc) {
         Ok(certificate) => Ok(certificate),
         Err(AllocError) => Err(OrMemory::Memory),
@@ -101,13 +99,13 @@ fn take_line<'a>(
 {
     match read_line(alloc, line) {
         Ok(said) => draft.take(said, line),
-        Err(OrMemory::Memory) => Err(row_fault(draft, line)),
+        Err(OrMemory::Memory) => Err(no_room_for_row(draft, line)),
         Err(OrMemory::Fault(BadLine)) => Err(OrMemory::Fault(BadLine)),
     }
 }
 
 /// What stands against a row's line whose row could not be allocated: that it can't follow, or else that.
-pub(crate) fn row_fault(draft: &Draft<'_>, line: &[u8]) -> OrMemory<BadLine>
+pub(crate) fn no_room_for_row(draft: &Draft<'_>, line: &[u8]) -> OrMemory<BadLine>
     requires { (row : RowView) × Spells line.now (RowLine row) }
     ensures { TakesLine (Err result) draft.now line.now draft.now }
 {

@@ -1,3 +1,4 @@
+//! A text cut at its first separator.
 ghost use Rattle.std.specs.Prelude.{◌≡◌, ◌<◌, [], ◌∷◌, length, MatchOption};
 ghost use Rattle.certificate_text.specs.Parts.{parts};
 

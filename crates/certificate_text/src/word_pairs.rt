@@ -1,3 +1,4 @@
+//! Texts of two or three parts.
 ghost use Rattle.std.specs.Prelude.{◌≡◌, List, ℕ, [], ◌∷◌, MatchOption};
 ghost use Rattle.certificate_text.specs.Parts.{parts};
 

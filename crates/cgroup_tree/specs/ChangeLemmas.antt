@@ -16,7 +16,7 @@ use Rattle.cpuset_tree.specs.TreeChanges.{without_group}
 use Rattle.cpuset_tree.specs.TreeLaws.{GroupAdded}
 use Rattle.cpuset_tree.specs.TreeLemmas.{added_leaves, removed_leaves, parent_is_there, serial_is_given}
 use Rattle.cpuset_tree.specs.TreeWellFormed.{IsWellFormed}
-use Rattle.cgroup_tree.specs.Asked.{Made, Removed, Unmade, Written, Asked, done}
+use Rattle.cgroup_tree.specs.Asked.{Made, Removed, Unmade, Written, Compared, Asked, done}
 use Rattle.cgroup_tree.specs.Paths.{folder, folder_at, folder_within, below, cpus_file, mems_file, controls_file, controls_line}
 use Rattle.cgroup_tree.specs.FolderLemmas.{older, folder_below}
 use Rattle.cgroup_tree.specs.ApartLemmas.{there_in, one_split, entry_placed}
@@ -69,11 +69,34 @@ not_controls_too root here there e =
     let split = one_split here there (drop 1 controls_file) (drop 1 mems_file) refl refl (append_cancel_left root (here ++ controls_file) (there ++ mems_file) e) in
     absurd (omega (arith, ap length split.1))
 
+-- a group that is added: what folders there are
+module _ (s new : TreeState) (parent g : Group) (name : List ℕ) (well : IsWellFormed s) (formed : IsWellFormed new) (adds : AddsGroup s parent name g new) where
+  pub leaves : GroupAdded s new parent name g
+  leaves = added_leaves s new parent name g adds
+
+  pub place_added : place_of new g ≡ Some (parent, name)
+  place_added = ap place_in leaves.there
+
+  differs : (p : Group) → p.serial < s.next_serial → same_group g p ≡ false
+  differs p old = other_serial g p (λ e. absurd (omega (arith, e, old, leaves.serial)))
+
+  pub folder_stays : (p : Group) → p.serial < s.next_serial → folder new p ≡ folder s p
+  folder_stays p old = folder_kept s new (λ (q : Group). q.serial < s.next_serial) (λ q older_q. ap place_in (leaves.others q (differs q older_q)))
+      (λ a b label older_a is. let lower : b.serial < a.serial = older s a b label well is in omega (arith, lower, older_a)) (suc p.serial) p old
+
+  pub folder_added : folder new g ≡ folder s parent ++ below name
+  folder_added =
+      let lower : parent.serial < g.serial = older new g parent name formed place_added in
+      folder_below new g parent name formed place_added ∙ ap (λ (f : List ℕ). f ++ below name) (folder_stays parent (omega (arith, lower, leaves.serial)))
+
+  pub is_old : (h : Group) → same_group g h ≡ false → is_some (place_of new h) ≡ true → h.serial < s.next_serial
+  is_old h other placed = serial_is_given s h well (there_in (entry_of s h) (sym (ap (λ (o : Option GroupEntry). is_some (place_in o)) (leaves.others h other)) ∙ placed))
+
 -- a folder that is made
 module _ (root : List ℕ) (memory : Ids) (s new : TreeState) (parent g : Group) (name : List ℕ) (calls : List Asked) (well : IsWellFormed s) (formed : IsWellFormed new)
     (apart : AreApart new) (adds : AddsGroup s parent name g new) (stands : StandsFor root memory s calls) where
   added : GroupAdded s new parent name g
-  added = added_leaves s new parent name g adds
+  added = leaves s new parent g name well formed adds
 
   abbrev path : List ℕ
   path = root ++ (folder s parent ++ below name)
@@ -82,28 +105,19 @@ module _ (root : List ℕ) (memory : Ids) (s new : TreeState) (parent g : Group)
   asked = done (Made path) ∷ done (Written (root ++ (folder s parent ++ controls_file)) controls_line) ∷ calls
 
   place_new : place_of new g ≡ Some (parent, name)
-  place_new = ap place_in added.there
-
-  IsOld : Group → Type 0
-  IsOld p = p.serial < s.next_serial
-
-  differs : (p : Group) → p.serial < s.next_serial → same_group g p ≡ false
-  differs p old = other_serial g p (λ e. absurd (omega (arith, e, old, added.serial)))
+  place_new = place_added s new parent g name well formed adds
 
   folder_old : (p : Group) → p.serial < s.next_serial → folder new p ≡ folder s p
-  folder_old p old = folder_kept s new (λ (q : Group). q.serial < s.next_serial) (λ q older_q. ap place_in (added.others q (differs q older_q)))
-      (λ a b label older_a is. let lower : b.serial < a.serial = older s a b label well is in omega (arith, lower, older_a)) (suc p.serial) p old
+  folder_old p old = folder_stays s new parent g name well formed adds p old
 
   folder_new : folder new g ≡ folder s parent ++ below name
-  folder_new =
-      let lower : parent.serial < g.serial = older new g parent name formed place_new in
-      folder_below new g parent name formed place_new ∙ ap (λ (f : List ℕ). f ++ below name) (folder_old parent (omega (arith, lower, added.serial)))
+  folder_new = folder_added s new parent g name well formed adds
 
   file_new : (file : List ℕ) → path ++ file ≡ root ++ (folder new g ++ file)
   file_new file = append_assoc root (folder s parent ++ below name) file ∙ ap (λ (f : List ℕ). root ++ (f ++ file)) (sym folder_new)
 
   old_of : (h : Group) → same_group g h ≡ false → is_some (place_of new h) ≡ true → h.serial < s.next_serial
-  old_of h other placed = serial_is_given s h well (there_in (entry_of s h) (sym (ap (λ (o : Option GroupEntry). is_some (place_in o)) (added.others h other)) ∙ placed))
+  old_of h other placed = is_old s new parent g name well formed adds h other placed
 
   placed_was : (h : Group) → same_group g h ≡ false → is_some (place_of new h) ≡ true → is_some (place_of s h) ≡ true
   placed_was h other placed = sym (ap (λ (o : Option GroupEntry). is_some (place_in o)) (added.others h other)) ∙ placed
@@ -161,6 +175,18 @@ gone root memory s path calls stands = record {
   mems = λ h placed. rw (unmade_nowhere calls path (root ++ (folder s h ++ mems_file))) (stands.mems h placed);
 }
 
+compared_nowhere : (calls : List Asked) (path line file : List ℕ) → text_in (done (Compared path line) ∷ calls) file ≡ text_in calls file
+unfolding text_in
+compared_nowhere calls path line file = refl
+
+-- a file that is looked at
+pub looked : (root : List ℕ) (memory : Ids) (s : TreeState) (path line : List ℕ) (calls : List Asked) → StandsFor root memory s calls
+    → StandsFor root memory s (done (Compared path line) ∷ calls)
+looked root memory s path line calls stands = record {
+  cpus = λ h placed. rw (compared_nowhere calls path line (root ++ (folder s h ++ cpus_file))) (stands.cpus h placed);
+  mems = λ h placed. rw (compared_nowhere calls path line (root ++ (folder s h ++ mems_file))) (stands.mems h placed);
+}
+
 -- the controllers that are passed on
 pub passed_on : (root : List ℕ) (memory : Ids) (s : TreeState) (parent : Group) (calls : List Asked) → StandsFor root memory s calls
     → StandsFor root memory s (done (Written (root ++ (folder s parent ++ controls_file)) controls_line) ∷ calls)
@@ -186,37 +212,39 @@ unmade root memory s parent name calls none stands =
           (λ e. none h placed (sym (one_folder root within (folder s h) mems_file (sym (append_assoc root within mems_file) ∙ e))))) (stands.mems h placed);
     }
 
+-- a group that is removed: what folders are left
+module _ (s : TreeState) (g : Group) (formed : IsWellFormed (without_group s g)) where
+  others_left : (h : Group) → has_group (without_group s g) h ≡ true → same_group g h ≡ false
+  others_left h there =
+      false_from_ne_true (same_group g h) (λ is.
+      both_ways (has_group (without_group s g) h) (ap (has_group (without_group s g)) (sym (same_group-equal g h is)) ∙ ap is_some (removed_leaves s g).gone) there)
+
+  pub there_left : (h : Group) → is_some (place_of (without_group s g) h) ≡ true → has_group (without_group s g) h ≡ true
+  there_left h placed = there_in (entry_of (without_group s g) h) placed
+
+  pub entry_left : (h : Group) → has_group (without_group s g) h ≡ true → entry_of s h ≡ entry_of (without_group s g) h
+  entry_left h there = sym ((removed_leaves s g).others h (others_left h there))
+
+  pub folder_left : (h : Group) → has_group (without_group s g) h ≡ true → folder s h ≡ folder (without_group s g) h
+  folder_left h there = folder_kept (without_group s g) s (λ (q : Group). has_group (without_group s g) q ≡ true) (λ q at. ap place_in (entry_left q at))
+      (λ a b label at is. let e = entry_placed (without_group s g) a b label is in (parent_is_there (without_group s g) a b e.entry formed e.there e.above).0) (suc h.serial) h there
+
 -- a folder that is removed
 module _ (root : List ℕ) (memory : Ids) (s : TreeState) (g : Group) (path : List ℕ) (calls : List Asked) (formed : IsWellFormed (without_group s g)) (stands : StandsFor root memory s calls) where
   abbrev left : TreeState
   left = without_group s g
 
-  others_left : (h : Group) → has_group left h ≡ true → same_group g h ≡ false
-  others_left h there =
-      false_from_ne_true (same_group g h) (λ is.
-      both_ways (has_group left h) (ap (has_group left) (sym (same_group-equal g h is)) ∙ ap is_some (removed_leaves s g).gone) there)
-
-  pub there_left : (h : Group) → is_some (place_of left h) ≡ true → has_group left h ≡ true
-  there_left h placed = there_in (entry_of left h) placed
-
-  pub entry_left : (h : Group) → has_group left h ≡ true → entry_of s h ≡ entry_of left h
-  entry_left h there = sym ((removed_leaves s g).others h (others_left h there))
-
-  folder_left : (h : Group) → has_group left h ≡ true → folder s h ≡ folder left h
-  folder_left h there = folder_kept left s (λ (q : Group). has_group left q ≡ true) (λ q at. ap place_in (entry_left q at))
-      (λ a b label at is. let e = entry_placed left a b label is in (parent_is_there left a b e.entry formed e.there e.above).0) (suc h.serial) h there
-
   cpus_left : (h : Group) → is_some (place_of left h) ≡ true → IsLineOf (text_in (done (Removed path) ∷ calls) (root ++ (folder left h ++ cpus_file))) (requested_cpus left h)
   cpus_left h placed =
-      let there : has_group left h ≡ true = there_left h placed in
-      rw (removed_nowhere calls path (root ++ (folder left h ++ cpus_file)), sym (folder_left h there), sym (ap cpus_in (entry_left h there)))
-      (stands.cpus h (ap (λ (o : Option GroupEntry). is_some (place_in o)) (entry_left h there) ∙ placed))
+      let there : has_group left h ≡ true = there_left s g formed h placed in
+      rw (removed_nowhere calls path (root ++ (folder left h ++ cpus_file)), sym (folder_left s g formed h there), sym (ap cpus_in (entry_left s g formed h there)))
+      (stands.cpus h (ap (λ (o : Option GroupEntry). is_some (place_in o)) (entry_left s g formed h there) ∙ placed))
 
   mems_left : (h : Group) → is_some (place_of left h) ≡ true → IsMemsLineOf memory (text_in (done (Removed path) ∷ calls) (root ++ (folder left h ++ mems_file))) (requested_mems left h)
   mems_left h placed =
-      let there : has_group left h ≡ true = there_left h placed in
-      rw (removed_nowhere calls path (root ++ (folder left h ++ mems_file)), sym (folder_left h there), sym (ap mems_in (entry_left h there)))
-      (stands.mems h (ap (λ (o : Option GroupEntry). is_some (place_in o)) (entry_left h there) ∙ placed))
+      let there : has_group left h ≡ true = there_left s g formed h placed in
+      rw (removed_nowhere calls path (root ++ (folder left h ++ mems_file)), sym (folder_left s g formed h there), sym (ap mems_in (entry_left s g formed h there)))
+      (stands.mems h (ap (λ (o : Option GroupEntry). is_some (place_in o)) (entry_left s g formed h there) ∙ placed))
 
 pub folders_stand : FoldersStand
 folders_stand = record {

@@ -1,19 +1,20 @@
 -- What was called of a mirrored kernel, and what each call asked of the files.
-use Rattle.std.specs.Prelude.{◌≡◌, ◌⊎◌, ℕ, Bool, List, [], ◌∷◌, ◌++◌, Result, Ok, Err}
+use Rattle.std.specs.Prelude.{◌≡◌, ◌⊎◌, ℕ, List, [], ◌∷◌, ◌++◌, Option, Some, None, Result, Ok, Err}
 use Rattle.faults.specs.declared.or_memory.OrMemory.{OrMemory}
 use Rattle.faults.specs.declared.or_memory.OrMemory.TheVariants.{Memory, Fault}
 use Rattle.cpu_set.specs.Ids.{Ids}
 use Rattle.cpuset_tree.specs.declared.Group.{Group}
-use Rattle.cpuset_tree.specs.Effective.{granted}
+use Rattle.cpuset_tree.specs.Places.{place_of}
+use Rattle.cpuset_tree.specs.Effective.{effective_cpus, granted}
 use Rattle.kernel_model.specs.declared.KernelFault.{KernelFault}
 use Rattle.kernel_model.specs.declared.KernelFault.TheVariants.{Failed}
 use Rattle.kernel_model.specs.KernelState.{KernelState}
 use Rattle.kernel_model.specs.WellFormed.{IsWellFormed}
 use Rattle.kernel_model.specs.Cases.{MakesGroup, RemovesGroup, WritesCpus, WritesMems, Spawns, EndsGroup, Forks, Exits, GoesOffline, ComesOnline}
-use Rattle.cgroup_tree.specs.Asked.{Deed, Made, Removed, Unmade, Written, Asked, done, refused}
-use Rattle.cgroup_tree.specs.Paths.{folder, below, list_line, cpus_file, mems_file, kill_file, controls_file, kill_line, controls_line}
+use Rattle.cgroup_tree.specs.Asked.{Deed, Made, Removed, Unmade, Written, Compared, Asked, Opening, done, refused}
+use Rattle.cgroup_tree.specs.Paths.{folder, below, list_line, cpus_file, cpus_in_effect, mems_file, kill_file, controls_file, kill_line, controls_line}
 use Rattle.cgroup_tree.specs.Mirrored.{IsNamed}
-use Rattle.cgroup_tree.specs.Site.{Begins, Site}
+use Rattle.cgroup_tree.specs.Site.{Begins, Site, opening}
 
 -- a call, with what it answered
 pub data Event : Type 0 where
@@ -41,12 +42,23 @@ Happens old (Exited pid r) new = Exits old pid r new
 Happens old (WentOffline cpu r) new = GoesOffline old cpu r new
 Happens old (CameOnline cpu r) new = ComesOnline old cpu r new
 
--- what a write asked of the files, the newest first: where it is Ok this, which was done; where it failed this, which was refused,
--- or nothing, where an allocation failed; and nothing where something stood against it
+-- what a write asked of the files, the newest first: where it is Ok this, which was done; where it failed this, which was refused;
+-- and nothing where something stood against it
 abbrev pub IsAsked : {A : Type 0} → Deed → Result A KernelFault → List Asked → Type 0
 IsAsked deed (Ok value) these = these ≡ done deed ∷ []
-IsAsked deed (Err Failed) these = (these ≡ refused deed ∷ []) ⊎ (these ≡ [])
+IsAsked deed (Err Failed) these = these ≡ refused deed ∷ []
 IsAsked deed (Err fault) these = these ≡ []
+
+-- the same of a group that has a place; the root's own files are left, whatever was answered
+abbrev pub IsAskedAt : {P A : Type 0} → Option P → Deed → Result A KernelFault → List Asked → Type 0
+IsAskedAt None deed answer these = these ≡ []
+IsAskedAt (Some place) deed answer these = IsAsked deed answer these
+
+-- of a write of CPUs: behind it what is in effect is looked at
+abbrev pub AreAskedAndLooked : {A : Type 0} → (write look : Deed) → Result A KernelFault → List Asked → Type 0
+AreAskedAndLooked write look (Ok value) these = these ≡ done look ∷ done write ∷ []
+AreAskedAndLooked write look (Err Failed) these = these ≡ refused write ∷ []
+AreAskedAndLooked write look (Err fault) these = these ≡ []
 
 -- of a new group: the first and then the second, and the third where its allocation in the model failed
 abbrev pub AreAsked : {A : Type 0} → Deed → Deed → Deed → Result A (OrMemory KernelFault) → List Asked → Type 0
@@ -62,16 +74,17 @@ module _ (root : List ℕ) (memory : Ids) where
   abbrev pub file_of : KernelState → Group → List ℕ → List ℕ
   file_of k g file = root ++ (folder k.tree g ++ file)
 
-  -- what a call asks of the files, by its answer
-  abbrev pub AsksFor : KernelState → Event → List Asked → Type 0
-  AsksFor k (MadeGroup parent name r) these =
+  -- what a call asks of the files, by its answer; behind a write of CPUs they are compared with what the group has in effect then
+  abbrev pub AsksFor : KernelState → Event → KernelState → List Asked → Type 0
+  AsksFor k (MadeGroup parent name r) new these =
       AreAsked (Written (file_of k parent controls_file) controls_line) (Made (file_of k parent (below name))) (Unmade (file_of k parent (below name))) r these
       × IsNamed name r
-  AsksFor k (RemovedGroup g r) these = IsAsked (Removed (file_of k g [])) r these
-  AsksFor k (WroteCpus g cpus r) these = IsAsked (Written (file_of k g cpus_file) (list_line cpus)) r these
-  AsksFor k (WroteMems g mems r) these = IsAsked (Written (file_of k g mems_file) (list_line (granted mems memory))) r these
-  AsksFor k (EndedGroup g r) these = IsAsked (Written (file_of k g kill_file) kill_line) r these
-  AsksFor k event these = these ≡ []
+  AsksFor k (RemovedGroup g r) new these = IsAsked (Removed (file_of k g [])) r these
+  AsksFor k (WroteCpus g cpus r) new these =
+      AreAskedAndLooked (Written (file_of k g cpus_file) (list_line cpus)) (Compared (file_of new g cpus_in_effect) (list_line (effective_cpus new.tree g))) r these
+  AsksFor k (WroteMems g mems r) new these = IsAsked (Written (file_of k g mems_file) (list_line (granted mems memory))) r these
+  AsksFor k (EndedGroup g r) new these = IsAskedAt (place_of k.tree g) (Written (file_of k g kill_file) kill_line) r these
+  AsksFor k event new these = these ≡ []
 
 module _ (site : Site) where
   -- a kernel as it began: of the root group alone
@@ -84,18 +97,18 @@ module _ (site : Site) where
   Past [] k asked = IsNew k × (asked ≡ [])
   Past (event ∷ past) k asked =
       (old : KernelState) × (before : List Asked) × (these : List Asked)
-      × Past past old before × Happens old event k × AsksFor site.root site.memory old event these × (asked ≡ these ++ before)
+      × Past past old before × Happens old event k × AsksFor site.root site.memory old event k these × (asked ≡ these ++ before)
 
 -- all that was asked of the files is what the calls of the kernel stand for, in their order, from its beginning on. The files
--- were opened so.
-pub record IsMirrored {F : Type 0} (asked : F → Bool → List Asked → Type 0) (site : Site) (k : KernelState) (files : F) : Type 0 where
+-- are opened so, and keep other programs from the root.
+pub record IsMirrored {F : Type 0} (asked : F → Opening → List Asked → Type 0) (site : Site) (k : KernelState) (files : F) : Type 0 where
   pub past : List Event
   pub calls : List Asked
   pub was : Past site past k calls
-  pub made : asked files site.adopt calls
+  pub made : asked files (opening site) calls
 
 -- a mirrored kernel that has this root and these nodes with memory
-pub record IsMirroredAt {F : Type 0} (asked : F → Bool → List Asked → Type 0) (site : Site) (root : List ℕ) (memory : Ids) (k : KernelState) (files : F) : Type 0 where
+pub record IsMirroredAt {F : Type 0} (asked : F → Opening → List Asked → Type 0) (site : Site) (root : List ℕ) (memory : Ids) (k : KernelState) (files : F) : Type 0 where
   pub mirrored : IsMirrored asked site k files
   pub root_is : root ≡ site.root
   pub memory_is : memory ≡ site.memory

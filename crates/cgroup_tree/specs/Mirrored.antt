@@ -1,5 +1,5 @@
 -- A kernel whose writes are asked of files too.
-use Rattle.std.specs.Prelude.{⊤, ℕ, ◌+◌, List, [], ◌∷◌, ◌⊎◌, Bool, Option, Some, None, Result, Ok, Err}
+use Rattle.std.specs.Prelude.{⊤, ℕ, ◌+◌, List, [], ◌∷◌, ◌⊎◌, Option, Some, None, Result, Ok, Err}
 use Rattle.faults.specs.declared.OrMemory.{OrMemory}
 use Rattle.faults.specs.declared.OrMemory.TheVariants.{Memory, Fault}
 use Rattle.kernel_model.specs.declared.KernelFault.{KernelFault}
@@ -17,11 +17,11 @@ abbrev pub IsNamed : {A : Type 0} → List ℕ → Result A (OrMemory KernelFaul
 IsNamed name (Err (Fault fault)) = ⊤
 IsNamed name answer = IsName name
 
-module _ {F : Type 0} (asked : F → Bool → List Asked → Type 0) (old : F) where
-  -- this alone was asked for and done, or it was refused, or an allocation failed before it was asked for
+module _ {F H : Type 0} (asked : F → H → List Asked → Type 0) (old : F) where
+  -- this alone was asked for, and done, or refused
   abbrev pub Tries : {E : Type 0} → Deed → Result (Unit {0}) E → F → Type 0
   Tries deed (Ok value) new = Asks asked old (done deed ∷ []) new
-  Tries deed (Err error) new = Asks asked old (refused deed ∷ []) new ⊎ Asks asked old [] new
+  Tries deed (Err error) new = Asks asked old (refused deed ∷ []) new
 
   -- the same where the kernel makes the write, and nothing is asked for where it is refused
   abbrev pub TriesWhere : {P E : Type 0} → Option P → Deed → Result (Unit {0}) E → F → Type 0
@@ -29,21 +29,31 @@ module _ {F : Type 0} (asked : F → Bool → List Asked → Type 0) (old : F) w
   TriesWhere None deed (Err error) new = ⊥
   TriesWhere (Some place) deed answer new = Tries deed answer new
 
-  -- what a call asks of the files, by its answer. If it is Ok, this was asked for and done. If it failed, it was refused, or
-  -- an allocation failed first. If something stood against it, nothing was asked for.
+  -- what a call asks of the files, by its answer. If it is Ok, this was asked for and done. If it failed, this was asked for and
+  -- refused. If something stood against it, nothing was asked for.
   abbrev pub Mirrors : {A : Type 0} → Deed → Result A KernelFault → F → Type 0
   Mirrors deed (Ok value) new = Asks asked old (done deed ∷ []) new
-  Mirrors deed (Err Failed) new = Asks asked old (refused deed ∷ []) new ⊎ Asks asked old [] new
+  Mirrors deed (Err Failed) new = Asks asked old (refused deed ∷ []) new
   Mirrors deed (Err fault) new = Asks asked old [] new
 
-  -- a folder is made once this was done, as its parent has to pass the controller on; or the one or the other was refused,
-  -- or an allocation failed before
+  -- the same of a group that has a place; of the root nothing is asked
+  abbrev pub MirrorsAt : {P A : Type 0} → Option P → Deed → Result A KernelFault → F → Type 0
+  MirrorsAt None deed answer new = Asks asked old [] new
+  MirrorsAt (Some place) deed answer new = Mirrors deed answer new
+
+  -- the same of a write behind which a look is taken
+  abbrev pub MirrorsLook : {A : Type 0} → (write look : Deed) → Result A KernelFault → F → Type 0
+  MirrorsLook write look (Ok value) new = Asks asked old (done look ∷ done write ∷ []) new
+  MirrorsLook write look (Err Failed) new = Asks asked old (refused write ∷ []) new
+  MirrorsLook write look (Err fault) new = Asks asked old [] new
+
+  -- a folder is made once this was done, as its parent has to pass the controller on; or the one or the other was refused
   abbrev pub TriesBoth : {A E : Type 0} → Deed → Deed → Result A E → F → Type 0
   TriesBoth first then (Ok value) new = Asks asked old (done then ∷ done first ∷ []) new
-  TriesBoth first then (Err error) new =
-      Asks asked old (refused then ∷ done first ∷ []) new ⊎ Asks asked old (refused first ∷ []) new ⊎ Asks asked old [] new
+  TriesBoth first then (Err error) new = Asks asked old (refused then ∷ done first ∷ []) new ⊎ Asks asked old (refused first ∷ []) new
 
-  -- the same of a call that makes a folder; it is unmade if the allocation of its group in the model fails
+  -- the same of a call that makes a folder; it is unmade if the allocation of its group in the model fails. It may fail with
+  -- nothing asked too: an allocation for the path failed, or the name is none of a folder.
   abbrev pub MirrorsBoth : {A : Type 0} → Deed → Deed → Deed → Result A (OrMemory KernelFault) → F → Type 0
   MirrorsBoth first then undone (Ok value) new = Asks asked old (done then ∷ done first ∷ []) new
   MirrorsBoth first then undone (Err Memory) new =

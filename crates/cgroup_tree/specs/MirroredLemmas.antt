@@ -1,6 +1,6 @@
 -- What a call of a mirrored kernel adds to what was asked of the files.
 use Rattle.std.proofs.Common.{◌≡◌, ℕ, refl, sym, ◌∙◌, subst, inl, inr}
-use Rattle.std.specs.Prelude.{Bool, List, [], ◌∷◌, ◌++◌, Result, Ok, Err}
+use Rattle.std.specs.Prelude.{List, [], ◌∷◌, ◌++◌, Option, Some, None, Result, Ok, Err}
 use Rattle.faults.specs.declared.or_memory.OrMemory.{OrMemory}
 use Rattle.faults.specs.declared.or_memory.OrMemory.TheVariants.{Memory, Fault}
 use Rattle.cpu_set.specs.Ids.{Ids}
@@ -8,26 +8,34 @@ use Rattle.kernel_model.specs.declared.KernelFault.{KernelFault}
 use Rattle.kernel_model.specs.declared.KernelFault.TheVariants.{Failed}
 use Rattle.kernel_model.specs.KernelState.{KernelState}
 use Rattle.kernel_model.specs.WellFormed.{IsWellFormed}
-use Rattle.cgroup_tree.specs.Asked.{Deed, Asked, Asks, done, refused}
-use Rattle.cgroup_tree.specs.Mirrored.{mirrored, Mirrors, MirrorsBoth}
-use Rattle.cgroup_tree.specs.Events.{Event, Happens, IsAsked, AreAsked, AsksFor, Past, IsMirrored, IsMirroredAt}
-use Rattle.cgroup_tree.specs.Site.{Beginning, Begins, Site}
+use Rattle.cgroup_tree.specs.Asked.{Deed, Asked, Asks, Opening, done, refused}
+use Rattle.cgroup_tree.specs.Mirrored.{mirrored, Mirrors, MirrorsAt, MirrorsBoth, MirrorsLook}
+use Rattle.cgroup_tree.specs.Events.{Event, Happens, IsAsked, IsAskedAt, AreAsked, AreAskedAndLooked, AsksFor, Past, IsMirrored, IsMirroredAt}
+use Rattle.cgroup_tree.specs.Site.{Beginning, Begins, Site, opening}
 use Rattle.cgroup_tree.specs.Stands.{FilesStand}
-use Rattle.cgroup_tree.specs.PastLemmas.{pasts_stand}
-use Rattle.cgroup_tree.specs.First.{first_mirrored}
+use Rattle.cgroup_tree.specs.PastLemmas.{past_kept, pasts_stand}
+use Rattle.cgroup_tree.specs.FirstLemmas.{first_mirrored}
 
 -- some calls more, which are these
-pub record Grown {F : Type 0} (asked : F → Bool → List Asked → Type 0) (old : F) (Are : List Asked → Type 0) (new : F) : Type 0 where
+pub record Grown {F : Type 0} (asked : F → Opening → List Asked → Type 0) (old : F) (Are : List Asked → Type 0) (new : F) : Type 0 where
   pub these : List Asked
   pub are : Are these
   pub asks : Asks asked old these new
 
-module _ {F : Type 0} (asked : F → Bool → List Asked → Type 0) (old new : F) where
+module _ {F : Type 0} (asked : F → Opening → List Asked → Type 0) (old new : F) where
   pub grown : {A : Type 0} → (deed : Deed) (r : Result A KernelFault) → Mirrors asked old deed r new → Grown asked old (IsAsked deed r) new
   grown deed (Ok value) asks = record { these = done deed ∷ []; are = refl; asks = asks }
-  grown deed (Err Failed) (inl asks) = record { these = refused deed ∷ []; are = inl refl; asks = asks }
-  grown deed (Err Failed) (inr asks) = record { these = []; are = inr refl; asks = asks }
+  grown deed (Err Failed) asks = record { these = refused deed ∷ []; are = refl; asks = asks }
   grown deed (Err fault) asks = record { these = []; are = refl; asks = asks }
+
+  pub grown_at : {P A : Type 0} → (place : Option P) (deed : Deed) (r : Result A KernelFault) → MirrorsAt asked old place deed r new → Grown asked old (IsAskedAt place deed r) new
+  grown_at None deed r asks = record { these = []; are = refl; asks = asks }
+  grown_at (Some place) deed r asks = grown deed r asks
+
+  pub grown_look : {A : Type 0} → (write look : Deed) (r : Result A KernelFault) → MirrorsLook asked old write look r new → Grown asked old (AreAskedAndLooked write look r) new
+  grown_look write look (Ok value) asks = record { these = done look ∷ done write ∷ []; are = refl; asks = asks }
+  grown_look write look (Err Failed) asks = record { these = refused write ∷ []; are = refl; asks = asks }
+  grown_look write look (Err fault) asks = record { these = []; are = refl; asks = asks }
 
   pub grown_both : {A : Type 0} → (first then undone : Deed) (r : Result A (OrMemory KernelFault)) → MirrorsBoth asked old first then undone r new
       → Grown asked old (AreAsked first then undone r) new
@@ -40,29 +48,29 @@ module _ {F : Type 0} (asked : F → Bool → List Asked → Type 0) (old new : 
   grown_both first then undone (Err (Fault fault)) asks = record { these = []; are = refl; asks = asks }
 
 -- after one call more it is so too
-pub goes_on : {F : Type 0} (asked : F → Bool → List Asked → Type 0) (site : Site) (root root' : List ℕ) (memory memory' : Ids) (k new : KernelState) (files after : F) (event : Event)
+pub goes_on : {F : Type 0} (asked : F → Opening → List Asked → Type 0) (site : Site) (root root' : List ℕ) (memory memory' : Ids) (k new : KernelState) (files after : F) (event : Event)
     → IsMirroredAt asked site root memory k files → root' ≡ root → memory' ≡ memory → Happens k event new
-    → Grown asked files (AsksFor root memory k event) after → IsMirroredAt asked site root' memory' new after
+    → Grown asked files (AsksFor root memory k event new) after → IsMirroredAt asked site root' memory' new after
 unfolding Past
 goes_on asked site root root' memory memory' k new files after event held same_root same_memory happens more =
     let was = held.mirrored in
-    let are : AsksFor site.root site.memory k event more.these =
-    subst (λ (r : List ℕ). AsksFor r site.memory k event more.these) held.root_is
-    (subst (λ (m : Ids). AsksFor root m k event more.these) held.memory_is more.are) in
+    let are : AsksFor site.root site.memory k event new more.these =
+    subst (λ (r : List ℕ). AsksFor r site.memory k event new more.these) held.root_is
+    (subst (λ (m : Ids). AsksFor root m k event new more.these) held.memory_is more.are) in
     record {
       mirrored = record {
         past = event ∷ was.past;
         calls = more.these ++ was.calls;
         was = (k, was.calls, more.these, was.was, happens, are, refl);
-        made = more.asks site.adopt was.calls was.made;
+        made = more.asks (opening site) was.calls was.made;
       };
       root_is = same_root ∙ held.root_is;
       memory_is = same_memory ∙ held.memory_is;
     }
 
 -- where nothing was asked
-pub unasked : {F : Type 0} (asked : F → Bool → List Asked → Type 0) (old new : F) → new ≡ old → Grown asked old (λ these. these ≡ []) new
-unasked asked old new same = record { these = []; are = refl; asks = λ adopt before held. subst (λ f. asked f adopt before) (sym same) held }
+pub unasked : {F : Type 0} (asked : F → Opening → List Asked → Type 0) (old new : F) → new ≡ old → Grown asked old (λ these. these ≡ []) new
+unasked asked old new same = record { these = []; are = refl; asks = λ how before held. subst (λ f. asked f how before) (sym same) held }
 
 -- a kernel of which some writes never came to the model is well formed as the model is
 pub well_mirrored : (n : ℕ) (k : KernelState) → IsWellFormed k → IsWellFormed (mirrored n k)
@@ -76,8 +84,8 @@ well_mirrored n k well = record {
 }
 
 -- at the beginning
-pub starts : {F : Type 0} (asked : F → Bool → List Asked → Type 0) (site : Site) (root : List ℕ) (memory : Ids) (n : ℕ) (k inner : KernelState) (files : F)
-    → k ≡ inner → n ≡ 0 → IsWellFormed inner → Begins site.first inner → root ≡ site.root → memory ≡ site.memory → asked files site.adopt []
+pub starts : {F : Type 0} (asked : F → Opening → List Asked → Type 0) (site : Site) (root : List ℕ) (memory : Ids) (n : ℕ) (k inner : KernelState) (files : F)
+    → k ≡ inner → n ≡ 0 → IsWellFormed inner → Begins site.first inner → root ≡ site.root → memory ≡ site.memory → asked files (opening site) []
     → IsMirroredAt asked site root memory (mirrored n k) files
 unfolding Past
 starts asked site root memory n k inner files is zero well first root_is memory_is none =
@@ -99,8 +107,13 @@ starts asked site root memory n k inner files is zero well first root_is memory_
       memory_is = memory_is;
     }
 
-pub stand : {F : Type 0} (asked : F → Bool → List Asked → Type 0) (site : Site) (k : KernelState) (files : F) → IsMirrored asked site k files
+pub stand : {F : Type 0} (asked : F → Opening → List Asked → Type 0) (site : Site) (k : KernelState) (files : F) → IsMirrored asked site k files
     → FilesStand asked site k files
 stand asked site k files was =
     let it = pasts_stand site was.past k was.calls was.was in
     record { calls = was.calls; made = was.made; stands = it.0; apart = it.1 }
+
+-- the kernel is well formed, as it was at the beginning
+pub well_at : {F : Type 0} (asked : F → Opening → List Asked → Type 0) (site : Site) (root : List ℕ) (memory : Ids) (k : KernelState) (files : F)
+    → IsMirroredAt asked site root memory k files → IsWellFormed k
+well_at asked site root memory k files held = (past_kept site held.mirrored.past k held.mirrored.calls held.mirrored.was).well

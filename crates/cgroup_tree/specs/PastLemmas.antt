@@ -30,14 +30,14 @@ use Rattle.kernel_model.specs.Names.{HaveOwnNames}
 use Rattle.kernel_model.specs.Refusals.{make_refusal, write_refusal}
 use Rattle.kernel_model.specs.Cases.{MakesGroup, RemovesGroup, WritesCpus, WritesMems, EndsGroup}
 use Rattle.kernel_model.specs.WellFormed.{IsWellFormed}
-use Rattle.cgroup_tree.specs.Asked.{Deed, Asked, Made, Removed, Unmade, Written, done, refused}
+use Rattle.cgroup_tree.specs.Asked.{Deed, Asked, Made, Removed, Unmade, Written, Compared, done, refused}
 use Rattle.cgroup_tree.specs.Mirrored.{IsNamed}
 use Rattle.cgroup_tree.specs.Paths.{is_slash, folder, below, cpus_file, mems_file, kill_file, kill_line, controls_file, controls_line, list_line}
 use Rattle.cgroup_tree.specs.Standing.{text_in, StandsFor, HavePlainNames, AreApart}
 use Rattle.cgroup_tree.specs.StandingLemmas.{folder_same, writes_stand, places_written, places_written_mems}
-use Rattle.cgroup_tree.specs.ChangeLemmas.{folders_stand, passed_on, unmade, gone, entry_left, there_left}
+use Rattle.cgroup_tree.specs.ChangeLemmas.{folders_stand, passed_on, unmade, gone, looked, entry_left, there_left}
 use Rattle.cgroup_tree.specs.ApartLemmas.{plain_names_apart, one_folder_there, entry_placed, some_of}
-use Rattle.cgroup_tree.specs.Events.{Event, MadeGroup, RemovedGroup, WroteCpus, WroteMems, Spawned, EndedGroup, Forked, Exited, WentOffline, CameOnline, Happens, IsAsked, AreAsked, AsksFor, IsNew, Past}
+use Rattle.cgroup_tree.specs.Events.{Event, MadeGroup, RemovedGroup, WroteCpus, WroteMems, Spawned, EndedGroup, Forked, Exited, WentOffline, CameOnline, Happens, IsAsked, IsAskedAt, AreAsked, AreAskedAndLooked, AsksFor, IsNew, Past}
 use Rattle.cgroup_tree.specs.Site.{Site}
 use Rattle.cgroup_tree.specs.Stands.{PastsStand}
 
@@ -52,14 +52,14 @@ placed_in : (o : Option GroupEntry)
 placed_in None = refl
 placed_in (Some e) = placed_at e.name e.parent
 
-placed : (k : KernelState) (g : Group) → write_refusal k g ≡ None → is_some (place_of k.tree g) ≡ true
-placed k g free = sym (placed_in (entry_of k.tree g)) ∙ ap is_none free
+pub placed_free : (k : KernelState) (g : Group) → write_refusal k g ≡ None → is_some (place_of k.tree g) ≡ true
+placed_free k g free = sym (placed_in (entry_of k.tree g)) ∙ ap is_none free
 
 abbrev tree_of : KernelState → TreeState
 tree_of k = k.tree
 
 -- a group with a place is not the root that stands alone
-no_place : (root : GroupEntry) (g : Group) → root.parent ≡ None → place_in (entry_among (root ∷ []) g) ≡ None
+pub no_place : (root : GroupEntry) (g : Group) → root.parent ≡ None → place_in (entry_among (root ∷ []) g) ≡ None
 no_place root g none =
     elim (same_group root.group g) as (λ b. place_in (if b then Some root else None) ≡ None) [
       | true ↦ ap (option_map {U = Group × List ℕ} (λ p. (p, root.name))) none
@@ -105,24 +105,27 @@ module _ (root : List ℕ) (memory : Ids) (old : KernelState) (before : List Ask
 
   -- a write of CPUs
   cpus_part : (g : Group) (cpus : Ids) (r : Result (Unit {0}) KernelFault) (new : KernelState) (these : List Asked) → WritesCpus old g cpus r new
-      → IsAsked (Written (root ++ (folder old.tree g ++ cpus_file)) (list_line cpus)) r these → PartOf new.tree these
-  cpus_part g cpus (Ok value) new these h are =
+      → (path line : List ℕ) → AreAskedAndLooked (Written (root ++ (folder old.tree g ++ cpus_file)) (list_line cpus)) (Compared path line) r these → PartOf new.tree these
+  cpus_part g cpus (Ok value) new these h path line are =
+      let stands : StandsFor root memory (with_cpus old.tree g cpus) (done (Written (root ++ (folder old.tree g ++ cpus_file)) (list_line cpus)) ∷ before) =
+      writes_stand.cpus root memory old.tree g cpus before apart_old (placed_free old g h.0) was.stands in
+      let plain : HavePlainNames (with_cpus old.tree g cpus) = λ p q name is. was.plain p q name (sym (places_written old.tree g cpus p) ∙ is) in
       in_tree new.tree (with_cpus old.tree g cpus) these (ap tree_of h.1) (of_calls (with_cpus old.tree g cpus) these _ are (record {
-        stands = writes_stand.cpus root memory old.tree g cpus before apart_old (placed old g h.0) was.stands;
-        plain = λ p q name is. was.plain p q name (sym (places_written old.tree g cpus p) ∙ is);
+        stands = looked root memory (with_cpus old.tree g cpus) path line (done (Written (root ++ (folder old.tree g ++ cpus_file)) (list_line cpus)) ∷ before) stands;
+        plain = plain;
       }))
-  cpus_part g cpus (Err Failed) new these h are = part_failed new.tree _ these (ap tree_of h) are
-  cpus_part g cpus (Err fault) new these h are = part_none new.tree these (ap tree_of h.1) are
+  cpus_part g cpus (Err Failed) new these h path line are = part_refused new.tree _ these (ap tree_of h) are
+  cpus_part g cpus (Err fault) new these h path line are = part_none new.tree these (ap tree_of h.1) are
 
   -- of memory nodes
   mems_part : (g : Group) (mems : Ids) (r : Result (Unit {0}) KernelFault) (new : KernelState) (these : List Asked) → WritesMems old g mems r new
       → IsAsked (Written (root ++ (folder old.tree g ++ mems_file)) (list_line (granted mems memory))) r these → PartOf new.tree these
   mems_part g mems (Ok value) new these h are =
       in_tree new.tree (with_mems old.tree g mems) these (ap tree_of h.1) (of_calls (with_mems old.tree g mems) these _ are (record {
-        stands = writes_stand.mems root memory old.tree g mems before apart_old (placed old g h.0) was.stands;
+        stands = writes_stand.mems root memory old.tree g mems before apart_old (placed_free old g h.0) was.stands;
         plain = λ p q name is. was.plain p q name (sym (places_written_mems old.tree g mems p) ∙ is);
       }))
-  mems_part g mems (Err Failed) new these h are = part_failed new.tree _ these (ap tree_of h) are
+  mems_part g mems (Err Failed) new these h are = part_refused new.tree _ these (ap tree_of h) are
   mems_part g mems (Err fault) new these h are = part_none new.tree these (ap tree_of h.1) are
 
   -- an end of processes
@@ -133,8 +136,13 @@ module _ (root : List ℕ) (memory : Ids) (old : KernelState) (before : List Ask
         stands = writes_stand.killed root memory old.tree g before was.stands;
         plain = was.plain;
       }))
-  end_part g (Err Failed) new these h are = part_failed new.tree _ these (ap tree_of h) are
+  end_part g (Err Failed) new these h are = part_refused new.tree _ these (ap tree_of h) are
   end_part g (Err fault) new these h are = part_none new.tree these (ap tree_of h.1) are
+
+  end_at : (place : Option (Group × List ℕ)) (g : Group) (r : Result (Unit {0}) KernelFault) (new : KernelState) (these : List Asked) → EndsGroup old g r new
+      → IsAskedAt place (Written (root ++ (folder old.tree g ++ kill_file)) kill_line) r these → PartOf new.tree these
+  end_at None g r new these h none = part_none new.tree these (writes_keep_tree.end old new g r h) none
+  end_at (Some place) g r new these h are = end_part g r new these h are
 
   -- a group that is removed
   remove_part : (g : Group) (r : Result (Unit {0}) KernelFault) (new : KernelState) (these : List Asked) → RemovesGroup old g r new
@@ -147,9 +155,9 @@ module _ (root : List ℕ) (memory : Ids) (old : KernelState) (before : List Ask
       in_tree new.tree left these (ap tree_of h.1) (of_calls left these _ are (record {
         stands = folders_stand.removed root memory old.tree g path before well was.stands;
         plain = λ p q name is. was.plain p q name
-            (ap place_in (entry_left root memory old.tree g path before well was.stands p (there_left root memory old.tree g path before well was.stands p (ap is_some is))) ∙ is);
+            (ap place_in (entry_left old.tree g well p (there_left old.tree g well p (ap is_some is))) ∙ is);
       }))
-  remove_part g (Err Failed) new these h are = part_failed new.tree _ these (ap tree_of h) are
+  remove_part g (Err Failed) new these h are = part_refused new.tree _ these (ap tree_of h) are
   remove_part g (Err fault) new these h are = part_none new.tree these (ap tree_of h.1) are
 
   -- a group that is made
@@ -240,18 +248,18 @@ module _ (root : List ℕ) (memory : Ids) (old : KernelState) (before : List Ask
   own_groups : (new : KernelState) → new.tree.groups ≡ old.tree.groups → HaveOwnNames new.tree.groups
   own_groups new same = subst (λ (gs : List GroupEntry). HaveOwnNames gs) (sym same) was.own
 
-  step : (event : Event) (new : KernelState) (these : List Asked) → Happens old event new → AsksFor root memory old event these → Kept root memory new (these ++ before)
+  step : (event : Event) (new : KernelState) (these : List Asked) → Happens old event new → AsksFor root memory old event new these → Kept root memory new (these ++ before)
   step (MadeGroup parent name r) new these h are =
       kept new these (make_part parent name r new these h are.0 are.1) ((each_case_keeps old new was.well).make parent name r h).well_formed
       (MakesGroup-names old was.own parent name r new h)
   step (RemovedGroup g r) new these h are =
       kept new these (remove_part g r new these h are) ((each_case_keeps old new was.well).remove g r h).well_formed (RemovesGroup-names old was.own g r new h)
   step (WroteCpus g cpus r) new these h are =
-      kept new these (cpus_part g cpus r new these h are) ((each_case_keeps old new was.well).cpus g cpus r h).well_formed (WritesCpus-names old was.own g cpus r new h)
+      kept new these (cpus_part g cpus r new these h _ _ are) ((each_case_keeps old new was.well).cpus g cpus r h).well_formed (WritesCpus-names old was.own g cpus r new h)
   step (WroteMems g mems r) new these h are =
       kept new these (mems_part g mems r new these h are) ((each_case_keeps old new was.well).mems g mems r h).well_formed (WritesMems-names old was.own g mems r new h)
   step (EndedGroup g r) new these h are =
-      kept new these (end_part g r new these h are) ((each_case_keeps old new was.well).end g r h).well_formed (own_tree new (writes_keep_tree.end old new g r h))
+      kept new these (end_at (place_of old.tree g) g r new these h are) ((each_case_keeps old new was.well).end g r h).well_formed (own_tree new (writes_keep_tree.end old new g r h))
   step (Spawned g r) new these h are =
       let same = writes_keep_tree.spawn old new g r h in
       kept new these (part_none new.tree these same are) ((each_case_keeps old new was.well).spawn g r h).well_formed (own_tree new same)

@@ -1,10 +1,14 @@
--- A text is a list of one set alone.
-use Rattle.std.proofs.Common.{◌≡◌, ℕ, Bool, true, false, List, sym, ap, ◌∙◌, subst}
+-- A text is a list of one set alone; and what was found of a root later could be found before.
+use Rattle.std.proofs.Common.{◌≡◌, ℕ, Bool, true, false, List, refl, sym, ap, ◌∙◌, subst, inl, inr}
 use Rattle.std.specs.FinSet as set
 use Rattle.std.proofs.lemmas.Bool.{both_ways}
 use Rattle.cpu_set.specs.Ids.{Ids, is_same}
-use Rattle.cpu_set.specs.Pointwise.{is_same_decides, same_members}
-use Rattle.cgroup_tree.specs.Roots.{IsListOf}
+use Rattle.cpu_set.specs.PointwiseLaws.{is_same_decides, same_members}
+use Rattle.std.specs.Prelude.{Option, Result, Ok, Err, [], ◌∷◌}
+use Rattle.cgroup_tree.specs.Asked.{Asked, Locked, refused}
+use Rattle.cgroup_tree.specs.Roots.{AnswersRoot, Finding, FindsNoMore, IsFolder, IsTaken, IsListOf, IsFound, CantRead, LooksAtLock, LooksAtMachine, MachineTells, RootTells, Tells, behind_lock}
+use Rattle.cgroup_tree.specs.declared.fault.RootFault.{RootFault}
+use Rattle.cgroup_tree.specs.declared.fault.RootFault.TheVariants.{Memory, Taken, Unlocked, Unread, NoCpuset, OtherMachine}
 
 -- a list is one of no other numbers
 pub one_set : (text : List ℕ) (s t : Ids) → IsListOf text s → IsListOf text t → s ≡ t
@@ -23,3 +27,81 @@ pub no_other : (text : List ℕ) (found nodes : Ids) (b : Bool) → IsListOf tex
     → (memory : Ids) → IsListOf text memory → set.is_subset memory nodes ≡ true → ⊥
 no_other text found nodes b is says fails memory also within =
     both_ways (set.is_subset found nodes) (sym says ∙ fails) (ap (λ (s : Ids). set.is_subset s nodes) (one_set text found memory is also) ∙ within)
+
+-- what was found behind the lock could be found before it
+module _ (old new : List ℕ → Finding → Type 0) (less : FindsNoMore old new) (root : List ℕ) where
+  found_before : (file : List ℕ) (Is : Option (List ℕ) → Type 0) → IsFound new root file Is → IsFound old root file Is
+  found_before file Is found = (found.0, less _ _ found.1, found.2)
+
+  unread_before : (file : List ℕ) (why : RootFault) → CantRead new root file why → CantRead old root file why
+  unread_before file (Unread kind) cant = less _ _ cant
+  unread_before file Memory cant = tt
+  unread_before file Taken cant = absurd cant
+  unread_before file (Unlocked kind) cant = absurd cant
+  unread_before file NoCpuset cant = absurd cant
+  unread_before file OtherMachine cant = absurd cant
+
+  pub looks_before : (online nodes : Ids) (answer : Result Ids RootFault) → LooksAtMachine new root online nodes answer → LooksAtMachine old root online nodes answer
+  looks_before online nodes (Ok memory) looks = (found_before _ _ looks.0, found_before _ _ looks.1, found_before _ _ looks.2)
+  looks_before online nodes (Err Memory) looks = tt
+  looks_before online nodes (Err (Unread kind)) (inl cant) = inl (less _ _ cant)
+  looks_before online nodes (Err (Unread kind)) (inr (has, inl cant)) = inr (found_before _ _ has, inl (less _ _ cant))
+  looks_before online nodes (Err (Unread kind)) (inr (has, inr (are, cant))) = inr (found_before _ _ has, inr (found_before _ _ are, less _ _ cant))
+  looks_before online nodes (Err Taken) (inl cant) = absurd cant
+  looks_before online nodes (Err Taken) (inr (has, inl cant)) = absurd cant
+  looks_before online nodes (Err Taken) (inr (has, inr (are, cant))) = absurd cant
+  looks_before online nodes (Err (Unlocked kind)) (inl cant) = absurd cant
+  looks_before online nodes (Err (Unlocked kind)) (inr (has, inl cant)) = absurd cant
+  looks_before online nodes (Err (Unlocked kind)) (inr (has, inr (are, cant))) = absurd cant
+  looks_before online nodes (Err NoCpuset) (inl lacks) = inl (found_before _ _ lacks)
+  looks_before online nodes (Err NoCpuset) (inr (has, inl cant)) = absurd cant
+  looks_before online nodes (Err NoCpuset) (inr (has, inr (are, cant))) = absurd cant
+  looks_before online nodes (Err OtherMachine) (inl cant) = absurd cant
+  looks_before online nodes (Err OtherMachine) (inr (has, inl other)) = inr (found_before _ _ has, inl (found_before _ _ other))
+  looks_before online nodes (Err OtherMachine) (inr (has, inr (are, other))) = inr (found_before _ _ has, inr (found_before _ _ are, found_before _ _ other))
+
+  tells_before : (file : List ℕ) (least most : Ids) (told : List Asked) → Tells new root file least most told → Tells old root file least most told
+  tells_before file least most told tells = (tells.0, less _ _ tells.1, tells.2)
+
+  pub machine_tells_before : (online nodes : Ids) (adopt : Bool) (answer : Result Ids RootFault) (told : List Asked) → MachineTells new root online nodes adopt answer told
+      → MachineTells old root online nodes adopt answer told
+  machine_tells_before online nodes adopt (Ok memory) told tells = tells
+  machine_tells_before online nodes adopt (Err OtherMachine) told (inl tells) = inl (tells_before _ _ _ _ tells)
+  machine_tells_before online nodes adopt (Err OtherMachine) told (inr tells) = inr (tells_before _ _ _ _ tells)
+  machine_tells_before online nodes adopt (Err Memory) told tells = tells
+  machine_tells_before online nodes adopt (Err Taken) told tells = tells
+  machine_tells_before online nodes adopt (Err (Unlocked kind)) told tells = tells
+  machine_tells_before online nodes adopt (Err (Unread kind)) told tells = tells
+  machine_tells_before online nodes adopt (Err NoCpuset) told tells = tells
+
+-- why a root is refused: at its lock, and behind it
+module _ (finds : List ℕ → Finding → Type 0) (root : List ℕ) (online nodes : Ids) (adopt : Bool) where
+  pub lock_refused : (why : RootFault) → LooksAtLock finds root {A = Unit {0}} (Err why) → RootTells finds root online nodes adopt (Err why) (refused (Locked root) ∷ [])
+  lock_refused Taken look = refl
+  lock_refused (Unlocked kind) look = refl
+  lock_refused Memory look = inr (inl refl)
+  lock_refused (Unread kind) look = absurd look
+  lock_refused NoCpuset look = absurd look
+  lock_refused OtherMachine look = absurd look
+
+  pub answer_behind : (why : RootFault) → finds root (IsFolder true) → finds root (IsTaken false) → LooksAtMachine finds root online nodes (Err why)
+      → AnswersRoot finds root online nodes (Err why)
+  answer_behind Memory is free looks = tt
+  answer_behind Taken is free looks = inr (is, inr (free, looks))
+  answer_behind (Unlocked kind) is free looks = inr (is, inr (free, looks))
+  answer_behind (Unread kind) is free looks = inr (is, inr (free, looks))
+  answer_behind NoCpuset is free looks = inr (is, inr (free, looks))
+  answer_behind OtherMachine is free looks = inr (is, inr (free, looks))
+
+  pub tells_behind : (why : RootFault) (told : List Asked) → LooksAtMachine finds root online nodes (Err why) → MachineTells finds root online nodes adopt (Err why) told
+      → RootTells finds root online nodes adopt (Err why) (behind_lock finds root told)
+  tells_behind Taken told (inl cant) tells = absurd cant
+  tells_behind Taken told (inr (has, inl cant)) tells = absurd cant
+  tells_behind Taken told (inr (has, inr (are, cant))) tells = absurd cant
+  tells_behind (Unlocked kind) told (inl cant) tells = absurd cant
+  tells_behind (Unlocked kind) told (inr (has, inl cant)) tells = absurd cant
+  tells_behind (Unlocked kind) told (inr (has, inr (are, cant))) tells = absurd cant
+  tells_behind Memory told looks tells = inr (inr (ap (behind_lock finds root) tells))
+  tells_behind (Unread kind) told looks tells = inr (ap (behind_lock finds root) tells)
+  tells_behind NoCpuset told looks tells = (told, tells, refl)
+  tells_behind OtherMachine told looks tells = (told, tells, refl)

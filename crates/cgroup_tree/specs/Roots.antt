@@ -1,7 +1,7 @@
 -- What the root of a cgroup tree has to be before a run begins, and why it is refused.
 -- From: cgroup v2, "Core Interface Files", `cgroup.controllers`, `cpuset.cpus.effective`, `cpuset.mems.effective`; cpuset(7),
 -- List Format.
-use Rattle.std.specs.Prelude.{◌≡◌, ◌⊎◌, ◌==◌, ◌||◌, ⊤, ℕ, Bool, true, false, List, ◌++◌, codes, bytes_eq, Option, Some, None, Result, Ok, Err}
+use Rattle.std.specs.Prelude.{◌≡◌, ◌≢◌, ◌⊎◌, ◌==◌, ◌||◌, ⊤, ℕ, Bool, true, false, if◌then◌else◌, List, [], ◌∷◌, ◌++◌, codes, bytes_eq, Option, Some, None, Result, Ok, Err}
 use Rattle.std.specs.FinSet as set
 use Rattle.std.specs.List.{list_any, slice_split}
 use Rattle.std.specs.declared.io.ErrorKind.{ErrorKind}
@@ -10,26 +10,36 @@ use Rattle.cpu_set.specs.Ids.{Ids}
 use Rattle.cpu_set.specs.declared.TheConstants.{CPU_LIMIT}
 use Rattle.cpu_list.specs.FirstFault.{first_fault}
 use Rattle.cpu_list.specs.ListText.{IsSetOf}
+use Rattle.cgroup_tree.specs.Asked.{Asked, Remark, Lacks, HasBesides, NoList, Locked, Named, Told, done, refused}
+use Rattle.cgroup_tree.specs.Paths.{cpus_in_effect}
+use Rattle.cgroup_tree.specs.declared.difference.Difference.{Difference}
+use Rattle.cgroup_tree.specs.declared.difference.Difference.TheVariants as difference
 use Rattle.cgroup_tree.specs.declared.fault.RootFault.{RootFault}
 use Rattle.cgroup_tree.specs.declared.fault.RootFault.TheVariants as root_fault
 
 -- what a look at a path may find: whether it is a folder; whether another program has it; what the file has, or none if it is
--- not there; or the kind of error by which the look failed
+-- not there; the kind of error by which the look failed, or by which the system can't lock it
 pub data Finding : Type 0 where
   IsFolder : Bool → Finding
   IsTaken : Bool → Finding
   Has : Option (List ℕ) → Finding
   Fails : ErrorKind → Finding
+  CantLock : ErrorKind → Finding
+
+-- whatever may be found now might have been found before
+abbrev pub FindsNoMore : (old new : List ℕ → Finding → Type 0) → Type 0
+FindsNoMore old new = (path : List ℕ) (what : Finding) → new path what → old path what
 
 -- cgroup v2, "Core Interface Files" and "Cpuset Interface Files": what the groups below can be given, and what is in effect
 abbrev pub controllers_file : List ℕ
 controllers_file = codes "/cgroup.controllers"
 
-abbrev pub cpus_in_effect : List ℕ
-cpus_in_effect = codes "/cpuset.cpus.effective"
-
 abbrev pub mems_in_effect : List ℕ
 mems_in_effect = codes "/cpuset.mems.effective"
+
+-- the folder of the group of all containers
+abbrev pub group_folder : List ℕ
+group_folder = codes "/numarun"
 
 -- a space or a line feed
 abbrev pub is_gap : ℕ → Bool
@@ -43,11 +53,17 @@ names_cpuset text = list_any (λ word. bytes_eq word (codes "cpuset")) (slice_sp
 abbrev pub IsListOf : List ℕ → Ids → Type 0
 IsListOf text ids = (first_fault CPU_LIMIT text ≡ None) × IsSetOf text ids
 
--- a failed look, of this kind: for want of memory, or else told as it is
+-- a failed look, of this kind: out of memory, or else told as it is
 abbrev pub IsFaultOf : ErrorKind → RootFault → Type 0
 IsFaultOf kind root_fault.Memory = kind ≡ OutOfMemory
 IsFaultOf kind (root_fault.Unread told) = told ≡ kind
 IsFaultOf kind _ = ⊥
+
+-- a folder that the system can't lock, by an error of this kind
+abbrev pub IsLockFaultOf : ErrorKind → RootFault → Type 0
+IsLockFaultOf kind root_fault.Memory = kind ≡ OutOfMemory
+IsLockFaultOf kind (root_fault.Unlocked told) = told ≡ kind
+IsLockFaultOf kind _ = ⊥
 
 -- of a root's path, where looks at paths may find this
 module _ (finds : List ℕ → Finding → Type 0) (root : List ℕ) where
@@ -87,10 +103,12 @@ module _ (finds : List ℕ → Finding → Type 0) (root : List ℕ) where
   LooksAtFolder (Err root_fault.Memory) = ⊤
   LooksAtFolder (Err _) = ⊥
 
-  -- the second look: whether another program has it
+  -- the second look: whether another program has it, or the system can't lock it
   abbrev pub LooksAtLock : {A : Type 0} → Result A RootFault → Type 0
   LooksAtLock (Ok lock) = finds root (IsTaken false)
   LooksAtLock (Err root_fault.Taken) = finds root (IsTaken true)
+  LooksAtLock (Err (root_fault.Unlocked kind)) = finds root (CantLock kind)
+  LooksAtLock (Err root_fault.Memory) = ⊤
   LooksAtLock (Err _) = ⊥
 
   -- the look at what its groups can be given: the controller of cpusets
@@ -130,3 +148,66 @@ module _ (finds : List ℕ → Finding → Type 0) (root : List ℕ) where
       LooksAtFolder (Err why)
       ⊎ (finds root (IsFolder true) × (LooksAtLock {A = Unit {0}} (Err why)
       ⊎ (finds root (IsTaken false) × LooksAtMachine online nodes (Err why))))
+
+-- what is told of a difference
+abbrev pub remark_of : Difference → Remark
+remark_of (difference.Lacks numbers) = Lacks numbers.now
+remark_of (difference.HasBesides numbers) = HasBesides numbers.now
+remark_of difference.NoList = NoList
+
+-- a remark on a file, unless there are no such numbers
+abbrev pub TellsUnlessNone : List ℕ → Ids → Remark → List Asked → Type 0
+TellsUnlessNone path numbers remark told = ((numbers ≡ set.empty) × (told ≡ [])) ⊎ ((numbers ≢ set.empty) × (told ≡ done (Told path remark) ∷ []))
+
+-- of a file that has a list, the newest first: which numbers it lacks of the least that it has to have, and which it has besides
+-- the most
+abbrev pub TellsNumbers : List ℕ → (least most found : Ids) → List Asked → Type 0
+TellsNumbers path least most found told = (lacks : List Asked) × (besides : List Asked)
+    × TellsUnlessNone path (set.difference least found) (Lacks (set.difference least found)) lacks
+    × TellsUnlessNone path (set.difference found most) (HasBesides (set.difference found most)) besides
+    × (told ≡ besides ++ lacks)
+
+-- what is told of a file that has this text: that it is no list; or which numbers it lacks, and which it has besides
+abbrev pub TellsOthers : (path text : List ℕ) → (least most : Ids) → List Asked → Type 0
+TellsOthers path text least most told =
+    ((first_fault CPU_LIMIT text ≢ None) × (told ≡ done (Told path NoList) ∷ []))
+    ⊎ ((found : Ids) × IsListOf text found × TellsNumbers path least most found told)
+
+-- what was asked of the trees while a root was looked at, the newest first
+module _ (finds : List ℕ → Finding → Type 0) (root : List ℕ) where
+  -- a file of the root was read, and is another machine's by its text: this was told of it
+  abbrev pub Tells : (file : List ℕ) → (least most : Ids) → List Asked → Type 0
+  Tells file least most told = (text : List ℕ) × finds (root ++ file) (Has (Some text)) × TellsOthers (root ++ file) text least most told
+
+  -- by the look at its CPUs in effect
+  abbrev pub CpusTell : Ids → Result (Unit {0}) RootFault → List Asked → Type 0
+  CpusTell online (Err root_fault.OtherMachine) told = Tells cpus_in_effect online online told
+  CpusTell online answer told = told ≡ []
+
+  -- by the look at its nodes in effect, of which there may be fewer
+  abbrev pub MemsTell : Ids → Result Ids RootFault → List Asked → Type 0
+  MemsTell nodes (Err root_fault.OtherMachine) told = Tells mems_in_effect set.empty nodes told
+  MemsTell nodes answer told = told ≡ []
+
+  -- the folders of a run before are named, where they may be there
+  abbrev pub names_strangers : Bool → List Asked
+  names_strangers adopt = if adopt then done (Named (root ++ group_folder)) ∷ [] else []
+
+  -- by the looks behind the lock
+  abbrev pub MachineTells : (online nodes : Ids) → (adopt : Bool) → Result Ids RootFault → List Asked → Type 0
+  MachineTells online nodes adopt (Ok memory) told = told ≡ names_strangers adopt
+  MachineTells online nodes adopt (Err root_fault.OtherMachine) told = Tells cpus_in_effect online online told ⊎ Tells mems_in_effect set.empty nodes told
+  MachineTells online nodes adopt (Err why) told = told ≡ []
+
+  -- it was kept from other programs, and then this was asked
+  abbrev pub behind_lock : List Asked → List Asked
+  behind_lock told = told ++ done (Locked root) ∷ []
+
+  -- while a root was opened: it was kept from other programs, and what it has was told where it is another machine's. The
+  -- folders of a run before were named where it was taken. Nothing that changes a file was asked.
+  abbrev pub RootTells : (online nodes : Ids) → (adopt : Bool) → Result Ids RootFault → List Asked → Type 0
+  RootTells online nodes adopt (Err root_fault.Taken) asked = asked ≡ refused (Locked root) ∷ []
+  RootTells online nodes adopt (Err (root_fault.Unlocked kind)) asked = asked ≡ refused (Locked root) ∷ []
+  RootTells online nodes adopt (Err root_fault.Memory) asked = (asked ≡ []) ⊎ (asked ≡ refused (Locked root) ∷ []) ⊎ (asked ≡ behind_lock [])
+  RootTells online nodes adopt (Err (root_fault.Unread kind)) asked = (asked ≡ []) ⊎ (asked ≡ behind_lock [])
+  RootTells online nodes adopt answer asked = (told : List Asked) × MachineTells online nodes adopt answer told × (asked ≡ behind_lock told)

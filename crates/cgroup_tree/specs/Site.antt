@@ -3,6 +3,7 @@ use Rattle.std.specs.Prelude.{ℕ, Bool, false, List, []}
 use Rattle.std.specs.FinSet as set
 use Rattle.cpu_set.specs.Ids.{Ids}
 use Rattle.kernel_model.specs.KernelState.{KernelState, IsFirstKernel}
+use Rattle.cgroup_tree.specs.Asked.{Opening}
 
 -- how a kernel began: the CPUs, those of them that are reserved and those that were online, its nodes, and the first pid
 pub record Beginning : Type 0 where
@@ -23,6 +24,10 @@ pub record Site : Type 0 where
   pub memory : Ids
   pub adopt : Bool
   pub first : Beginning
+
+-- how the files there are opened: other programs are kept from the root
+abbrev pub opening : Site → Opening
+opening site = record { adopt = site.adopt; locked = site.root }
 
 -- one that no kernel has
 abbrev pub nowhere : Site

@@ -12,7 +12,7 @@ use Rattle.cpuset_tree.specs.Places.{place_of}
 use Rattle.cpuset_tree.specs.Effective.{granted}
 use Rattle.cpuset_tree.specs.TreeChanges.{with_cpus, with_mems, without_group}
 use Rattle.cpuset_tree.specs.TreeAnswers.{AddsGroup}
-use Rattle.cgroup_tree.specs.Asked.{Deed, Made, Removed, Unmade, Written, Asked, done, refused}
+use Rattle.cgroup_tree.specs.Asked.{Deed, Made, Removed, Unmade, Written, Compared, Locked, Told, Named, Asked, done, refused}
 use Rattle.cpuset_tree.specs.TreeWellFormed.{IsWellFormed}
 use Rattle.kernel_model.specs.Names.{HaveOwnNames}
 use Rattle.cgroup_tree.specs.Paths.{is_slash, folder, below, cpus_file, mems_file, controls_file, controls_line, kill_file, kill_line, list_line}
@@ -23,6 +23,10 @@ text_after (Made path) file text = if bytes_eq (path ++ cpus_file) file || bytes
 text_after (Removed path) file text = text
 text_after (Unmade path) file text = text
 text_after (Written path line) file text = if bytes_eq path file then Some line else text
+text_after (Compared path line) file text = text
+text_after (Locked path) file text = text
+text_after (Told path remark) file text = text
+text_after (Named path) file text = text
 
 -- the text that a file has after these calls, the newest first, if files do what they answer
 unfoldable pub text_in : List Asked → List ℕ → Option (List ℕ)

@@ -1,3 +1,4 @@
+//! How a file of a root differs from what a machine has.
 use cpu_set::IdSet;
 
 /// By what a file of a root differs from what a machine's has.

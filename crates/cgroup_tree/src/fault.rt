@@ -1,3 +1,4 @@
+//! Why a tree is not taken.
 use std::alloc::AllocError;
 use std::io;
 use std::io::ErrorKind;
@@ -9,6 +10,8 @@ pub enum RootFault {
     Memory,
     /// E50: another program has it.
     Taken,
+    /// E50: the system can't lock it, so other programs can't be kept from it.
+    Unlocked(ErrorKind),
     /// E113: the root is no folder, or a file of it can't be read.
     Unread(ErrorKind),
     /// E115: its groups can't have cpusets of their own: `cgroup.controllers` is there and does not name `cpuset`.

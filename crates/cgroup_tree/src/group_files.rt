@@ -1,6 +1,6 @@
 //! What the folders and files of groups are asked for.
-ghost use Rattle.std.specs.Prelude.{Bool, List, [], ◌∷◌};
-ghost use Rattle.cgroup_tree.specs.Asked.{Asked, Asks, Made, Removed, Unmade, Written, is_made};
+ghost use Rattle.std.specs.Prelude.{List, [], ◌∷◌};
+ghost use Rattle.cgroup_tree.specs.Asked.{Asked, Asks, Compared, Made, Opening, Removed, Unmade, Written, done, is_made};
 
 use std::io;
 
@@ -9,9 +9,9 @@ use std::io;
 /// What they hold is not said, since no contract can say what a file system does. What they were asked for is: which
 /// calls were made so far, the newest first, and which of them were refused.
 pub trait GroupFiles {
-    /// Whether these files may have been opened with folders of a run before, and the calls that may have been made of
-    /// them so far.
-    ghost asked: { Self → Bool → List Asked → Type 0 };
+    /// How these files may have been opened, with folders of a run before or without, and under which folder's lock;
+    /// and the calls that may have been made of them so far. No call opens them otherwise, so the lock lasts.
+    ghost asked: { Self → Opening → List Asked → Type 0 };
 
     /// Makes a folder.
     ///
@@ -42,7 +42,10 @@ pub trait GroupFiles {
         ensures { Asks asked self.old (record { deed = Written path.now text.now; done = is_made result }
             ∷ []) self.new };
 
+    /// Tells the operator that memory is short for the path of a new folder of this name, which was not asked for.
+    fn tell_lack(&self, name: &str);
+
     /// Looks whether the file of this path has this line, and tells the operator where it has not. Nothing is changed.
     fn compare_line(&mut self, path: &str, line: &[u8])
-        ensures { Asks asked self.old [] self.new };
+        ensures { Asks asked self.old (done (Compared path.now line.now) ∷ []) self.new };
 }

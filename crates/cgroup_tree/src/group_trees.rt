@@ -1,13 +1,15 @@
 //! Where a cgroup tree is found, and what it has at the start.
-ghost use Rattle.std.specs.Prelude.{ℕ, List, [], MatchOption, MatchResult, false, option_map, true};
+ghost use Rattle.std.specs.Prelude.{ℕ, Bool, List, [], ◌∷◌, MatchOption, MatchResult, false, option_map, true};
 ghost use Rattle.std.specs.IoError.{error_kind};
-ghost use Rattle.cgroup_tree.specs.Roots.{Fails, Finding, Has, IsFolder, IsTaken};
+ghost use Rattle.cgroup_tree.specs.Asked.{Asked, Asks, HandsOut, Locked, Named, TakesBack, Told, done, is_locked};
+ghost use Rattle.cgroup_tree.specs.Roots.{CantLock, Fails, Finding, FindsNoMore, Has, IsFolder, IsTaken, remark_of};
 
 use crate::{Difference, GroupFiles};
 use std::alloc::Global;
 use std::io;
 
-/// What gives access to cgroup trees, and reads what they have before a run begins. One of them can be opened, once.
+/// What gives access to cgroup trees, and reads what they have before a run begins. It hands out the files of one tree
+/// at a time, and knows what was asked of them once it has them back.
 pub trait GroupTrees {
     type Files: GroupFiles + Drop;
 
@@ -20,14 +22,20 @@ pub trait GroupTrees {
     /// The folders that a lock keeps other programs from.
     ghost locks: { Self.Lock → List ℕ → Type 0 };
 
-    /// The folders that other programs are kept from as long as these files live.
-    ghost keeps: { Self.Files → List ℕ → Type 0 };
+    /// Whether the files of a tree are handed out, and the calls that may have been made of trees so far, the newest
+    /// first: here, and of all files that were taken back.
+    ghost asked: { Self → Bool → List Asked → Type 0 };
 
     /// The files of a tree, of which nothing was asked yet, and which hold this lock. With `adopt` there may be folders
     /// already, which a run before this made, and links to groups elsewhere.
-    fn files(self, lock: Self::Lock, adopt: bool) -> Self::Files
-        ensures asked { Self.Files.asked result adopt [] }
-        ensures keeps { (path : List ℕ) → locks lock path → keeps result path };
+    fn files(&mut self, lock: Self::Lock, adopt: bool) -> Self::Files
+        ensures opened { (path : List ℕ) → locks lock path
+            → Self.Files.asked result (record { adopt = adopt; locked = path }) [] }
+        ensures out { HandsOut asked self.old [] self.new };
+
+    /// Takes the files back that were handed out, and lets their lock go.
+    fn close(&mut self, files: Self::Files)
+        ensures { TakesBack asked Self.Files.asked self.old files self.new };
 
     /// Whether this is a folder.
     ///
@@ -39,10 +47,18 @@ pub trait GroupTrees {
             (λ error. finds self.now path.now (Fails (error_kind error))) };
 
     /// Keeps other programs that ask for this from a folder, or none where one of them has it. It waits for none.
-    fn lock(&self, path: &str) -> Option<Self::Lock>
-        ensures { MatchOption result
-            (finds self.now path.now (IsTaken true))
-            (λ lock. finds self.now path.now (IsTaken false) × locks lock path.now) };
+    ///
+    /// # Errors
+    /// Those of the system, which can't lock the folder.
+    fn lock(&mut self, path: &str) -> io::Result<Option<Self::Lock>>
+        ensures asked { Asks asked self.old (record { deed = Locked path.now; done = is_locked result } ∷ []) self.new }
+        ensures looks { MatchResult result
+            (λ found. MatchOption found
+            (finds self.old path.now (IsTaken true))
+            (λ lock. finds self.old path.now (IsTaken false) × locks lock path.now))
+            (λ error. finds self.old path.now (CantLock (error_kind error))) }
+        // What is found later could be found before.
+        ensures finds { FindsNoMore (finds self.old) (finds self.new) };
 
     /// What a file has, or none where it is not there.
     ///
@@ -54,8 +70,10 @@ pub trait GroupTrees {
             (λ error. finds self.now path.now (Fails (error_kind error))) };
 
     /// Tells the operator by what the file of this path differs from what a machine's has.
-    fn tell(&self, path: &str, difference: Difference<'_>);
+    fn tell(&mut self, path: &str, difference: Difference<'_>)
+        ensures { Asks asked self.old (done (Told path.now (remark_of difference.entry)) ∷ []) self.new };
 
     /// Names to the operator each folder in this one.
-    fn name_folders(&self, alloc: Global, path: &str);
+    fn name_folders(&mut self, alloc: Global, path: &str)
+        ensures { Asks asked self.old (done (Named path.now) ∷ []) self.new };
 }

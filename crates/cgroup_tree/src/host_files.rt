@@ -1,5 +1,5 @@
 //! The system's own folders and files.
-ghost use Rattle.std.specs.Prelude.{◌≡◌};
+ghost use Rattle.std.specs.Prelude.{◌≡◌, is_some, true};
 
 use crate::GroupFiles;
 use crate::shown::Shown;
@@ -24,8 +24,7 @@ const CONTROLS: &str = "/cgroup.subtree_control";
 pub struct HostFiles<'a, R> {
     /// What gives access to them.
     pub rt: &'a R,
-    /// The tree's root, locked: other programs are kept from it as long as this is open. None where the system has no
-    /// lock for it.
+    /// The tree's root, locked: other programs are kept from it as long as this is here and open.
     pub lock: Option<File>,
     /// Whether there may be folders already, which a run before this made, and links to groups elsewhere.
     pub adopt: bool,
@@ -55,6 +54,12 @@ impl<R: Files + Alloc + Clock + Eprint> HostFiles<'_, R> {
         let _ = eprintln!(self.rt; "error: {}: {error}", Shown(path));
     }
 
+    /// Says on standard error what was written into a file, and what the system said of that.
+    fn note_text(&self, path: &str, text: &[u8], error: &io::Error) {
+        let text = str::from_utf8(text).unwrap_or("").trim_end();
+        let _ = eprintln!(self.rt; "error: {}: {}: {error}", Shown(path), Shown(text));
+    }
+
     /// Says on standard error what a file has, and what it ought to have.
     fn differs(&self, path: &str, text: &[u8], line: &[u8]) {
         if let (Ok(text), Ok(line)) = (str::from_utf8(text), str::from_utf8(line)) {
@@ -68,14 +73,23 @@ impl<R: Files + Alloc + Clock + Eprint> HostFiles<'_, R> {
         }
     }
 
-    /// What is answered where a write failed: in a folder that is gone it counts as done, since a group that is not
-    /// there has no process.
-    fn unwritten(&self, path: &str, error: io::Error) -> io::Result<()> {
+    /// What is answered where a file can't be opened: in a folder that is gone the write counts as done, since a group
+    /// that is not there has no process.
+    fn unopened(&self, path: &str, error: io::Error) -> io::Result<()> {
         self.note(path, &error);
+        if self.is_gone(path) {
+            return Ok(());
+        }
+        self.note_plain(path, &error);
+        Err(error)
+    }
+
+    /// The same where a file is open, and does not take the text.
+    fn unwritten(&self, path: &str, text: &[u8], error: io::Error) -> io::Result<()> {
+        self.note_text(path, text, &error);
         if self.is_gone(path) {
             Ok(())
         } else {
-            self.note_plain(path, &error);
             Err(error)
         }
     }
@@ -96,6 +110,14 @@ impl<R: Files + Alloc + Clock + Eprint> HostFiles<'_, R> {
             return false;
         };
         self.is_absent(folder)
+    }
+
+    /// Whether there is a folder under this path, or a link to one.
+    fn is_folder(&self, path: &str) -> bool {
+        match fs::metadata(self.rt, path) {
+            Ok(found) => found.is_dir(),
+            Err(_) => false,
+        }
     }
 
     /// Whether there is nothing under this path, or a link to nothing.
@@ -155,16 +177,18 @@ fn write_at_once<W: Write>(file: &mut W, text: &[u8]) -> io::Result<()> {
 }
 
 impl<R: Files + Alloc + Clock + Eprint> GroupFiles for HostFiles<'_, R> {
-    ghost asked = { λ files adopt _. files.adopt ≡ adopt };
+    ghost asked = { λ files how _. (files.adopt ≡ how.adopt) × (is_some files.lock ≡ true) };
 
     /// A folder that is there counts as made where it may be there already.
     fn make_folder(&mut self, path: &str) -> io::Result<()> {
         self.found = false;
         match fs::create_dir(self.rt, path) {
-            Err(error) if self.adopt && error.kind() == ErrorKind::AlreadyExists => {
-                self.found = true;
-                Ok(())
-            }
+            Err(error)
+                if self.adopt && error.kind() == ErrorKind::AlreadyExists && self.is_folder(path) =>
+                {
+                    self.found = true;
+                    Ok(())
+                }
             Err(error) => {
                 self.note(path, &error);
                 Err(error)
@@ -201,12 +225,16 @@ impl<R: Files + Alloc + Clock + Eprint> GroupFiles for HostFiles<'_, R> {
         let mut file = match OpenOptions::new().write(true).open(self.rt, path) {
             Ok(file) => file,
             Err(error) if self.is_of_links(path, &error) => return Ok(()),
-            Err(error) => return self.unwritten(path, error),
+            Err(error) => return self.unopened(path, error),
         };
         match write_at_once(&mut file, text) {
             Ok(()) => Ok(()),
-            Err(error) => self.unwritten(path, error),
+            Err(error) => self.unwritten(path, text, error),
         }
+    }
+
+    fn tell_lack(&self, name: &str) {
+        let _ = eprintln!(self.rt; "error: {}: no memory for its path", Shown(name));
     }
 
     fn compare_line(&mut self, path: &str, line: &[u8]) {

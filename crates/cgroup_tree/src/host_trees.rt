@@ -36,6 +36,16 @@ impl<R: Files + Eprint> HostTrees<'_, R> {
             let _ = eprintln!(self.rt; "error: {}: {error}", Shown(path));
         }
     }
+
+    /// Says on standard error which file of a root can't be read, and why; of the root it is answered that it can't be.
+    fn unread(&self, path: &str, error: io::Error) -> io::Error {
+        if error.kind() == ErrorKind::OutOfMemory {
+            self.note_memory(path, &error);
+            return error;
+        }
+        let _ = eprintln!(self.rt; "error: {}: {error}", Shown(path));
+        io::Error::from(ErrorKind::Other)
+    }
 }
 
 /// The folder of this path, open and locked (flock(2)): until the file is closed, or its program has ended, no other
@@ -54,18 +64,20 @@ impl<'a, R: Files<File = File> + AllocGlobal + Clock + Eprint + Clone + Drop> Gr
     for HostTrees<'a, R> {
     type Files = HostFiles<'a, R>;
 
-    /// None where the system has no lock for the folder.
-    type Lock = Option<File>;
+    /// The folder, open and locked.
+    type Lock = File;
 
     ghost finds = { λ _ _ _. ⊤ };
 
     ghost locks = { λ _ _. ⊤ };
 
-    ghost keeps = { λ _ _. ⊤ };
+    ghost asked = { λ _ _ _. ⊤ };
 
-    fn files(self, lock: Option<File>, adopt: bool) -> HostFiles<'a, R> {
-        HostFiles::new(self.rt, lock, adopt)
+    fn files(&mut self, lock: File, adopt: bool) -> HostFiles<'a, R> {
+        HostFiles::new(self.rt, Some(lock), adopt)
     }
+
+    fn close(&mut self, _files: HostFiles<'a, R>) {}
 
     fn is_folder(&self, path: &str) -> io::Result<bool> {
         match fs::metadata(self.rt, path) {
@@ -77,14 +89,13 @@ impl<'a, R: Files<File = File> + AllocGlobal + Clock + Eprint + Clone + Drop> Gr
         }
     }
 
-    /// A folder that the system can't lock is kept from nobody, with a note.
-    fn lock(&self, path: &str) -> Option<Option<File>> {
+    fn lock(&mut self, path: &str) -> io::Result<Option<File>> {
         match open_locked(self.rt, path) {
-            Ok(file) => Some(Some(file)),
-            Err(TryLockError::WouldBlock) => None,
+            Ok(file) => Ok(Some(file)),
+            Err(TryLockError::WouldBlock) => Ok(None),
             Err(TryLockError::Error(error)) => {
-                let _ = eprintln!(self.rt; "note: {}: no lock: {error}", Shown(path));
-                Some(None)
+                let _ = eprintln!(self.rt; "error: {}: {error}", Shown(path));
+                Err(error)
             }
         }
     }
@@ -93,14 +104,11 @@ impl<'a, R: Files<File = File> + AllocGlobal + Clock + Eprint + Clone + Drop> Gr
         match fs::read(self.rt, path) {
             Ok(text) => Ok(Some(text)),
             Err(error) if error.kind() == ErrorKind::NotFound => Ok(None),
-            Err(error) => {
-                self.note_memory(path, &error);
-                Err(error)
-            }
+            Err(error) => Err(self.unread(path, error)),
         }
     }
 
-    fn tell(&self, path: &str, difference: Difference<'_>) {
+    fn tell(&mut self, path: &str, difference: Difference<'_>) {
         let (what, numbers) = match difference {
             Difference::Lacks(numbers) => ("lacks", numbers),
             Difference::HasBesides(numbers) => ("has besides", numbers),
@@ -117,7 +125,7 @@ impl<'a, R: Files<File = File> + AllocGlobal + Clock + Eprint + Clone + Drop> Gr
         }
     }
 
-    fn name_folders(&self, _alloc: Global, path: &str) {
+    fn name_folders(&mut self, _alloc: Global, path: &str) {
         let Ok(entries) = fs::read_dir(self.rt, path) else {
             return;
         };

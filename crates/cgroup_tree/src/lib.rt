@@ -5,9 +5,13 @@
 //!
 //! - `MirroredKernel` meets the trait `Kernel`. Its meaning is the modelled kernel's; writes that never came to the
 //!   model count as writes and failures. So all that is proved of failing writes holds of it.
-//! - What each writing call asks of the tree's files is its contract, on top of the trait's (`Mirrors`, `MirrorsBoth`).
-//!   If it is Ok, it asked for exactly the write that it stands for, and that was done. If it failed, it asked for that
-//!   write and was refused, or for nothing. If something stood against it in the model, it asked for nothing.
+//! - What each writing call asks of the tree's files is its contract, on top of the trait's (`Mirrors`,
+//!   `MirrorsLook`, `MirrorsBoth`). If it is Ok, it asked for exactly the write that it stands for, and that was
+//!   done. If it failed, it asked for that write and was refused; a group that is made may fail with nothing asked.
+//!   If something stood against it in the model, it asked for nothing. Behind a write of CPUs `cpuset.cpus.effective`
+//!   is compared with what the model has in effect.
+//! - A write takes no memory. There is room for the path of each file of each group, and for the line of any set
+//!   (`HasRoom`): the kernel's making takes it, and a group's. Only a group that is made fails for want of it.
 //! - No path leaves the root: names with a slash, `.` and `..` are refused.
 //! - If a folder was made for a group and the group's allocation then failed, the folder is unmade. That is a call of
 //!   its own (`Unmade`), which is to leave a folder that was there before.
@@ -21,15 +25,23 @@
 //!   those of its nodes that have memory. This is claimed of what was asked. It holds of the files themselves if they
 //!   do what they answer and nobody else writes.
 //! - What looks at paths may find is a relation of the trait `GroupTrees`. So E113, E115, E116 and the E50 of a second
-//!   program come exactly if what was found says so. An allocation failure may come anywhere, so a body that always
-//!   answers one meets that too.
+//!   program, or of a root that can't be locked, come exactly if what was found says so. An allocation failure may come
+//!   anywhere, so a body that always answers one meets that too.
+//! - `GroupTrees` has the list of all that was asked of trees. A root that is refused asks for no more than its lock
+//!   and what is told of it: which CPUs or nodes it lacks, and which it has besides. One that is taken asks for its
+//!   lock, and with `--adopt` for the folders of a run before to be named (`RootTells`).
+//! - How files were opened is part of their relation, with the folder that they are locked by. No call of theirs
+//!   changes it. So the lock is held from the opening until the files are taken back (`close`), which puts all that
+//!   they were asked for into the list of the trees.
 //! - No contract can say what a file system does. Of the system's own files (`HostFiles`, `HostTrees`) it is proved
 //!   that their calls end and do nothing undefined. It is also proved that they are opened with folders of a run
-//!   before, or without, as they are told. Tests show the rest: a look finds what is there, and a lock keeps others off
+//!   before, or without, as they are told, and that none of their calls drops the open file that is locked. Tests show
+//!   the rest: a look finds what is there, and a lock keeps others off
 //!   until the program has ended. A write reaches the file, and what was there before is left. They show the notes too.
 #![tactic(auto)]
 
-mod asking;
+mod cgroup;
+mod cpuset;
 mod difference;
 mod fault;
 mod group_files;
@@ -37,9 +49,11 @@ mod group_trees;
 mod host_files;
 mod host_trees;
 pub mod laws;
+mod line;
 mod mirror;
 mod mirrored_kernel;
 mod paths;
+mod room;
 mod root;
 mod shown;
 mod sited;
@@ -51,5 +65,6 @@ pub use group_trees::GroupTrees;
 pub use host_files::HostFiles;
 pub use host_trees::HostTrees;
 pub use mirrored_kernel::MirroredKernel;
+pub use room::Room;
 pub use root::{OpenTree, open_tree};
 pub use sited::Sited;

@@ -1,21 +1,27 @@
-ghost use Rattle.std.specs.Prelude.{◌≡◌, ◌+◌, ◌++◌, [], None, string_bytes};
-ghost use Rattle.cpuset_tree.specs.Effective.{granted};
+//! A kernel and the files of a tree, call by call.
+ghost use Rattle.std.specs.Prelude.{◌≡◌, ◌+◌, ◌≤◌, ◌++◌, [], ◌∷◌, IfOk, length, string_bytes, true};
+ghost use Rattle.std.specs.String.{string_capacity};
+ghost use Rattle.cpuset_tree.specs.Effective.{effective_cpus, granted};
+ghost use Rattle.cpuset_tree.specs.Groups.{has_group};
 ghost use Rattle.cpuset_tree.specs.Places.{place_of};
 ghost use Rattle.kernel_model.specs.declared.KernelFault.TheVariants.{Failed};
 ghost use Rattle.kernel_model.specs.Cases.{MakesGroup, RemovesGroup, WritesCpus, WritesMems, Spawns, EndsGroup, Forks};
 ghost use Rattle.kernel_model.specs.Cases.{Exits, GoesOffline, ComesOnline};
-ghost use Rattle.cgroup_tree.specs.Asked.{Asks, Made, Removed, Unmade, Written};
-ghost use Rattle.cgroup_tree.specs.Mirrored.{mirrored, Mirrors, MirrorsBoth, IsNamed};
+ghost use Rattle.cgroup_tree.specs.Asked.{Asks, Compared, Made, Removed, Unmade, Written, done};
+ghost use Rattle.cgroup_tree.specs.Mirrored.{mirrored, Mirrors, MirrorsAt, MirrorsBoth, MirrorsLook};
+ghost use Rattle.cgroup_tree.specs.Mirrored.{IsNamed};
+ghost use Rattle.cgroup_tree.specs.Room.{HasRoom};
 ghost use Rattle.cgroup_tree.specs.Paths.{folder, below, list_line, cpus_file, mems_file, kill_file, controls_file};
-ghost use Rattle.cgroup_tree.specs.Paths.{kill_line, controls_line};
+ghost use Rattle.cgroup_tree.specs.Paths.{cpus_in_effect, kill_line, controls_line};
 
 use crate::GroupFiles;
-use crate::asking::{compare_list, end_all, make_folder, remove_folder, with_memory, write_list};
-use crate::paths::is_name;
+use crate::cgroup::{end_all, make_folder, remove_folder};
+use crate::cpuset::{compare_list, with_memory, write_list};
+use crate::paths::{is_name, widen};
+use crate::room::{LINE_ROOM, Room};
 use cpu_set::IdSet;
 use faults::OrMemory;
 use kernel_model::{Group, Kernel, KernelFault, ModelKernel, WriteCount};
-use std::alloc::Global;
 
 /// The files of a group (cgroup v2, "Core Interface Files" and "Cpuset Interface Files").
 const CPUS_FILE: &str = "/cpuset.cpus";
@@ -27,7 +33,6 @@ const CPUS_IN_EFFECT: &str = "/cpuset.cpus.effective";
 /// A modelled kernel and the files that its writes are asked of, with nothing known of how they came together.
 #[derive(Drop)]
 pub struct Mirror<F: GroupFiles> {
-    alloc: Global,
     /// The path of the root group's folder.
     pub root: String,
     /// The nodes that have memory.
@@ -38,30 +43,27 @@ pub struct Mirror<F: GroupFiles> {
     pub files: F,
     /// How many of them were refused.
     pub failed: WriteCount,
+    /// Where paths and lines are made.
+    pub room: Room,
 }
 
 impl<F: GroupFiles> Mirror<F> {
     /// The kernel over these files, the root group's folder at this path.
-    pub fn new(
-        alloc: Global,
-        inner: ModelKernel,
-        root: String,
-        memory: IdSet,
-        files: F,
-    ) -> Mirror<F>
+    pub fn new(inner: ModelKernel, root: String, memory: IdSet, files: F, room: Room) -> Mirror<F>
         ensures inner { result.inner ≡ inner }
         ensures root { result.root ≡ root }
         ensures memory { result.memory ≡ memory }
         ensures files { result.files ≡ files }
         ensures failed { result.failed.writes ≡ 0 }
+        ensures room { result.room ≡ room }
     {
         Mirror {
-            alloc,
             root,
             memory,
             inner,
             files,
             failed: WriteCount::none(),
+            room,
         }
     }
 
@@ -73,14 +75,16 @@ impl<F: GroupFiles> Mirror<F> {
         ensures root { self.new.root ≡ self.old.root }
         ensures memory { self.new.memory ≡ self.old.memory }
         ensures files { self.new.files ≡ self.old.files }
+        ensures room { self.new.room ≡ self.old.room }
     {
         self.failed = self.failed.one_more();
         KernelFault::Failed
     }
 
     /// Makes a group, once the files have made its folder; that is removed again where its allocation in the model
-    /// fails.
+    /// fails. Room for its paths is taken first: all that is written of it later takes no memory.
     pub fn make_group(&mut self, parent: Group, name: &str) -> Result<Group, OrMemory<KernelFault>>
+        requires path { HasRoom (string_capacity self.old.room.path) (string_bytes self.old.root) self.old.inner.tree }
         ensures case { MakesGroup (mirrored self.old.failed.writes self.old.inner) parent name.now result
             (mirrored self.new.failed.writes self.new.inner) }
         ensures asks { MirrorsBoth F.asked self.old.files
@@ -90,6 +94,11 @@ impl<F: GroupFiles> Mirror<F> {
             self.new.files }
         ensures same { (self.new.root ≡ self.old.root) × (self.new.memory ≡ self.old.memory) }
         ensures named { IsNamed name.now result }
+        ensures wide { IfOk result (λ _. length (string_bytes self.old.root)
+            + (length (folder self.old.inner.tree parent) + (length name.now + 25))
+            ≤ string_capacity self.new.room.path) }
+        ensures wider { (string_capacity self.old.room.path ≤ string_capacity self.new.room.path)
+            × (string_capacity self.old.room.line ≤ string_capacity self.new.room.line) }
     {
         if self.inner.makable(parent, name).is_err() {
             return self.inner.make_group(parent, name);
@@ -98,27 +107,34 @@ impl<F: GroupFiles> Mirror<F> {
             return Err(OrMemory::Fault(self.fail()));
         }
         let (root, kernel) = (self.root.as_str(), &self.inner);
-        let Ok(path) = make_folder(self.alloc, &mut self.files, root, kernel, parent, name) else {
+        if widen(&mut self.room.path, root, kernel, parent, name).is_err() {
+            self.files.tell_lack(name);
             return Err(OrMemory::Fault(self.fail()));
-        };
+        }
+        if make_folder(&mut self.files, &mut self.room, root, kernel, parent, name).is_err() {
+            return Err(OrMemory::Fault(self.fail()));
+        }
         let answer = self.inner.make_group(parent, name);
         if let Err(OrMemory::Memory) = answer {
-            let _ = self.files.unmake_folder(path.as_str());
+            let _ = self.files.unmake_folder(self.room.path.as_str());
         }
         answer
     }
 
     /// Removes a group, once the files have removed its folder.
     pub fn remove_group(&mut self, group: Group) -> Result<(), KernelFault>
+        requires path { HasRoom (string_capacity self.old.room.path) (string_bytes self.old.root) self.old.inner.tree }
         ensures case { RemovesGroup (mirrored self.old.failed.writes self.old.inner) group result
             (mirrored self.new.failed.writes self.new.inner) }
         ensures asks { Mirrors F.asked self.old.files
             (Removed (string_bytes self.old.root ++ (folder self.old.inner.tree group ++ []))) result self.new.files }
         ensures same { (self.new.root ≡ self.old.root) × (self.new.memory ≡ self.old.memory) }
+        ensures wider { (string_capacity self.old.room.path ≤ string_capacity self.new.room.path)
+            × (string_capacity self.old.room.line ≤ string_capacity self.new.room.line) }
     {
         if self.inner.removable(group).is_ok() {
             let (root, kernel) = (self.root.as_str(), &self.inner);
-            if remove_folder(self.alloc, &mut self.files, root, kernel, group).is_err() {
+            if remove_folder(&mut self.files, &mut self.room, root, kernel, group).is_err() {
                 return Err(self.fail());
             }
         }
@@ -127,17 +143,23 @@ impl<F: GroupFiles> Mirror<F> {
 
     /// Writes what a group requests of CPUs, and looks whether it has them in effect.
     pub fn write_cpus(&mut self, group: Group, cpus: IdSet) -> Result<(), KernelFault>
+        requires path { HasRoom (string_capacity self.old.room.path) (string_bytes self.old.root) self.old.inner.tree }
+        requires line { LINE_ROOM ≤ string_capacity self.old.room.line }
         ensures case { WritesCpus (mirrored self.old.failed.writes self.old.inner) group cpus result
             (mirrored self.new.failed.writes self.new.inner) }
-        ensures asks { Mirrors F.asked self.old.files
+        ensures asks { MirrorsLook F.asked self.old.files
             (Written (string_bytes self.old.root
-            ++ (folder self.old.inner.tree group ++ cpus_file)) (list_line cpus)) result self.new.files }
+            ++ (folder self.old.inner.tree group ++ cpus_file)) (list_line cpus))
+            (Compared (string_bytes self.old.root ++ (folder self.new.inner.tree group ++ cpus_in_effect))
+            (list_line (effective_cpus self.new.inner.tree group))) result self.new.files }
         ensures same { (self.new.root ≡ self.old.root) × (self.new.memory ≡ self.old.memory) }
+        ensures wider { (string_capacity self.old.room.path ≤ string_capacity self.new.room.path)
+            × (string_capacity self.old.room.line ≤ string_capacity self.new.room.line) }
     {
         let (root, kernel) = (self.root.as_str(), &self.inner);
         let asked = write_list(
-            self.alloc,
             &mut self.files,
+            &mut self.room,
             root,
             kernel,
             group,
@@ -148,25 +170,43 @@ impl<F: GroupFiles> Mirror<F> {
             return Err(self.fail());
         }
         let answer = self.inner.write_cpus(group, cpus);
-        if answer.is_ok()
-            && let Ok(ids) = self.inner.effective_cpus(group)
-        {
-            let (root, kernel) = (self.root.as_str(), &self.inner);
-            compare_list(
-                self.alloc,
-                &mut self.files,
-                root,
-                kernel,
-                group,
-                CPUS_IN_EFFECT,
-                ids,
-            );
+        if answer.is_ok() {
+            self.look(group);
         }
         answer
     }
 
+    /// Looks whether a group has in effect the CPUs that the model says.
+    fn look(&mut self, group: Group)
+        requires path { HasRoom (string_capacity self.old.room.path) (string_bytes self.old.root) self.old.inner.tree }
+        requires line { LINE_ROOM ≤ string_capacity self.old.room.line }
+        requires there { has_group self.old.inner.tree group ≡ true }
+        ensures looks { Asks F.asked self.old.files (done (Compared (string_bytes self.old.root
+            ++ (folder self.old.inner.tree group ++ cpus_in_effect))
+            (list_line (effective_cpus self.old.inner.tree group))) ∷ []) self.new.files }
+        ensures same { (self.new.root ≡ self.old.root) × (self.new.memory ≡ self.old.memory)
+            × (self.new.inner ≡ self.old.inner) × (self.new.failed ≡ self.old.failed) }
+        ensures wider { (string_capacity self.old.room.path ≤ string_capacity self.new.room.path)
+            × (string_capacity self.old.room.line ≤ string_capacity self.new.room.line) }
+    {
+        let Ok(ids) = self.inner.effective_cpus(group) else {
+            unreachable!()
+        };
+        compare_list(
+            &mut self.files,
+            &mut self.room,
+            self.root.as_str(),
+            &self.inner,
+            group,
+            CPUS_IN_EFFECT,
+            ids,
+        );
+    }
+
     /// Writes what a group requests of nodes, of which the files get those that have memory.
     pub fn write_mems(&mut self, group: Group, mems: IdSet) -> Result<(), KernelFault>
+        requires path { HasRoom (string_capacity self.old.room.path) (string_bytes self.old.root) self.old.inner.tree }
+        requires line { LINE_ROOM ≤ string_capacity self.old.room.line }
         ensures case { WritesMems (mirrored self.old.failed.writes self.old.inner) group mems result
             (mirrored self.new.failed.writes self.new.inner) }
         ensures asks { Mirrors F.asked self.old.files
@@ -174,12 +214,14 @@ impl<F: GroupFiles> Mirror<F> {
             ++ (folder self.old.inner.tree group ++ mems_file)) (list_line (granted mems self.old.memory))) result
             self.new.files }
         ensures same { (self.new.root ≡ self.old.root) × (self.new.memory ≡ self.old.memory) }
+        ensures wider { (string_capacity self.old.room.path ≤ string_capacity self.new.room.path)
+            × (string_capacity self.old.room.line ≤ string_capacity self.new.room.line) }
     {
         let (root, kernel) = (self.root.as_str(), &self.inner);
         let nodes = with_memory(&mems, &self.memory);
         let asked = write_list(
-            self.alloc,
             &mut self.files,
+            &mut self.room,
             root,
             kernel,
             group,
@@ -198,25 +240,31 @@ impl<F: GroupFiles> Mirror<F> {
             (mirrored self.new.failed.writes self.new.inner) }
         ensures same { (self.new.root ≡ self.old.root) × (self.new.memory ≡ self.old.memory)
             × (self.new.files ≡ self.old.files) }
+        ensures room { self.new.room ≡ self.old.room }
     {
         self.inner.spawn(group)
     }
 
     /// Ends a group's processes. Those of the root are left: its folder has no file for that.
     pub fn end_group(&mut self, group: Group) -> Result<(), KernelFault>
+        requires path { HasRoom (string_capacity self.old.room.path) (string_bytes self.old.root) self.old.inner.tree }
         ensures case { EndsGroup (mirrored self.old.failed.writes self.old.inner) group result
             (mirrored self.new.failed.writes self.new.inner) }
-        ensures asks { Mirrors F.asked self.old.files
+        ensures asks { MirrorsAt F.asked self.old.files (place_of self.old.inner.tree group)
             (Written (string_bytes self.old.root
             ++ (folder self.old.inner.tree group ++ kill_file)) kill_line) result self.new.files }
         ensures same { (self.new.root ≡ self.old.root) × (self.new.memory ≡ self.old.memory) }
-        ensures root { place_of self.old.inner.tree group ≡ None → Asks F.asked self.old.files [] self.new.files }
+        ensures wider { (string_capacity self.old.room.path ≤ string_capacity self.new.room.path)
+            × (string_capacity self.old.room.line ≤ string_capacity self.new.room.line) }
     {
         if self.inner.requested_cpus(group).is_err() {
             return self.inner.end_group(group);
         }
         let (root, kernel) = (self.root.as_str(), &self.inner);
-        if end_all(self.alloc, &mut self.files, root, kernel, group).is_err() {
+        if kernel.place(group).is_none() {
+            return Err(self.fail());
+        }
+        if end_all(&mut self.files, &mut self.room, root, kernel, group).is_err() {
             return Err(self.fail());
         }
         self.inner.end_group(group)
@@ -228,6 +276,7 @@ impl<F: GroupFiles> Mirror<F> {
             (mirrored self.new.failed.writes self.new.inner) }
         ensures same { (self.new.root ≡ self.old.root) × (self.new.memory ≡ self.old.memory)
             × (self.new.files ≡ self.old.files) }
+        ensures room { self.new.room ≡ self.old.room }
     {
         self.inner.fork(parent)
     }
@@ -238,6 +287,7 @@ impl<F: GroupFiles> Mirror<F> {
             (mirrored self.new.failed.writes self.new.inner) }
         ensures same { (self.new.root ≡ self.old.root) × (self.new.memory ≡ self.old.memory)
             × (self.new.files ≡ self.old.files) }
+        ensures room { self.new.room ≡ self.old.room }
     {
         self.inner.exit(pid)
     }
@@ -248,6 +298,7 @@ impl<F: GroupFiles> Mirror<F> {
             (mirrored self.new.failed.writes self.new.inner) }
         ensures same { (self.new.root ≡ self.old.root) × (self.new.memory ≡ self.old.memory)
             × (self.new.files ≡ self.old.files) }
+        ensures room { self.new.room ≡ self.old.room }
     {
         self.inner.offline(cpu)
     }
@@ -258,6 +309,7 @@ impl<F: GroupFiles> Mirror<F> {
             (mirrored self.new.failed.writes self.new.inner) }
         ensures same { (self.new.root ≡ self.old.root) × (self.new.memory ≡ self.old.memory)
             × (self.new.files ≡ self.old.files) }
+        ensures room { self.new.room ≡ self.old.room }
     {
         self.inner.online_cpu(cpu)
     }

@@ -1,26 +1,31 @@
-ghost use Rattle.std.specs.Prelude.{◌≡◌, ◌++◌, [], string_bytes};
-ghost use Rattle.cpuset_tree.specs.Effective.{granted};
+//! The kernel whose writes are made in a tree first, as callers see it.
+ghost use Rattle.std.specs.Prelude.{◌≡◌, ◌+◌, ◌≤◌, ◌++◌, [], length, string_bytes};
+ghost use Rattle.std.specs.String.{string_capacity};
+ghost use Rattle.cpuset_tree.specs.Places.{place_of};
+ghost use Rattle.cpuset_tree.specs.Effective.{effective_cpus, granted};
 ghost use Rattle.kernel_model.specs.Cases.{MakesGroup, RemovesGroup, WritesCpus, WritesMems, EndsGroup};
-ghost use Rattle.cgroup_tree.specs.Asked.{Made, Removed, Unmade, Written};
+ghost use Rattle.cgroup_tree.specs.Asked.{Compared, Made, Removed, Unmade, Written};
 ghost use Rattle.cgroup_tree.specs.Events.{IsMirrored};
-ghost use Rattle.cgroup_tree.specs.Site.{Begins};
+ghost use Rattle.cgroup_tree.specs.Site.{Begins, opening};
 ghost use Rattle.cgroup_tree.specs.Stands.{FilesStand};
-ghost use Rattle.cgroup_tree.specs.Mirrored.{mirrored, Mirrors, MirrorsBoth, IsNamed};
+ghost use Rattle.cgroup_tree.specs.Mirrored.{mirrored, Mirrors, MirrorsAt, MirrorsBoth, MirrorsLook};
+ghost use Rattle.cgroup_tree.specs.Mirrored.{IsNamed};
 ghost use Rattle.cgroup_tree.specs.Paths.{folder, below, list_line, cpus_file, mems_file, kill_file, controls_file};
-ghost use Rattle.cgroup_tree.specs.Paths.{kill_line, controls_line};
+ghost use Rattle.cgroup_tree.specs.Paths.{cpus_in_effect, kill_line, controls_line};
 
 use crate::mirror::Mirror;
+use crate::room::{FILE_ROOM, LINE_ROOM, Room};
 use crate::{GroupFiles, Sited};
 use cpu_set::IdSet;
 use faults::OrMemory;
 use kernel_model::{Group, Kernel, KernelFault, ModelKernel};
-use std::alloc::Global;
 use std::marker::{Model, PhantomData};
 
 /// A modelled kernel whose writes are made in a cgroup v2 tree first.
 ///
-/// A write that the model would refuse is asked of nobody. Each other is asked for once, and where that is refused, or
-/// an allocation failed before it, the call is a write that failed: the model is as it was. A first process is made in
+/// A write that the model would refuse is asked of nobody. Each other is asked for once, and where that is refused the
+/// call is a write that failed: the model is as it was. A group that is made fails so too where memory is short for its
+/// path; no other call takes memory. A first process is made in
 /// the model alone.
 ///
 /// At each time all that was asked of the files is what the calls of this kernel stand for, in their order, from its
@@ -34,14 +39,18 @@ pub struct MirroredKernel<F: GroupFiles, S: Sited> {
 
 impl<F: GroupFiles, S: Sited> Model for MirroredKernel<F, S> {
     ghost use Rattle.std.specs.Prelude.{string_bytes};
-    ghost use Rattle.cgroup_tree.specs.Shown.{Shown, shown_code};
+    ghost use Rattle.cgroup_tree.specs.KernelView.{KernelView, kernel_view_code};
 
-    ghost Value = { Shown F };
+    ghost Value = { KernelView F };
 
-    ghost coded = { shown_code F.code };
+    ghost coded = { kernel_view_code F.code };
 
     ghost use Rattle.cgroup_tree.specs.Mirrored.{mirrored};
     ghost use Rattle.cgroup_tree.specs.Events.{IsMirroredAt};
+    ghost use Rattle.std.specs.Prelude.{◌≤◌};
+    ghost use Rattle.std.specs.String.{string_capacity};
+    ghost use Rattle.cgroup_tree.specs.Room.{HasRoom};
+    ghost use Rattle.cgroup_tree.specs.declared.room.TheConstants.{LINE_ROOM};
 
     ghost view = { λ k. record {
       root = string_bytes k.mirror.root;
@@ -52,22 +61,27 @@ impl<F: GroupFiles, S: Sited> Model for MirroredKernel<F, S> {
     } };
 
     ghost invariant = { λ k. IsMirroredAt F.asked S.site (string_bytes k.mirror.root) k.mirror.memory
-        (mirrored k.mirror.failed.writes k.mirror.inner) k.mirror.files };
+        (mirrored k.mirror.failed.writes k.mirror.inner) k.mirror.files
+        × HasRoom (string_capacity k.mirror.room.path) (string_bytes k.mirror.root) k.mirror.inner.tree
+        × (LINE_ROOM ≤ string_capacity k.mirror.room.line) };
 }
 
 impl<F: GroupFiles, S: Sited> MirroredKernel<F, S> {
-    /// The kernel over these files, of which nothing was asked yet, the root group's folder at this path.
+    /// The kernel over these files, of which nothing was asked yet, the root group's folder at this path; with room in
+    /// which its paths and lines are made.
     pub fn new(
-        alloc: Global,
         inner: ModelKernel,
         root: String,
         memory: IdSet,
         files: F,
+        room: Room,
     ) -> MirroredKernel<F, S>
         requires first { Begins S.site.first inner }
         requires root { string_bytes root ≡ S.site.root }
         requires memory { memory ≡ S.site.memory }
-        requires unasked { F.asked files S.site.adopt [] }
+        requires unasked { F.asked files (opening S.site) [] }
+        requires path { length (string_bytes root) + FILE_ROOM ≤ string_capacity room.path }
+        requires line { LINE_ROOM ≤ string_capacity room.line }
         ensures inner { result.inner ≡ inner }
         ensures root { result.root ≡ string_bytes root }
         ensures memory { result.memory ≡ memory }
@@ -76,7 +90,7 @@ impl<F: GroupFiles, S: Sited> MirroredKernel<F, S> {
     {
         inner.root();
         MirroredKernel {
-            mirror: Mirror::new(alloc, inner, root, memory, files),
+            mirror: Mirror::new(inner, root, memory, files, room),
             site: PhantomData,
         }
     }
@@ -95,6 +109,13 @@ impl<F: GroupFiles, S: Sited> MirroredKernel<F, S> {
         ensures { FilesStand F.asked S.site (mirrored self.now.failed self.now.inner) self.now.files }
     {
         self.is_mirrored();
+    }
+
+    /// The files, handed back once the kernel is done with.
+    pub fn into_files(self) -> F
+        ensures { result ≡ self.files }
+    {
+        self.mirror.files
     }
 }
 
@@ -125,9 +146,10 @@ impl<F: GroupFiles, S: Sited> Kernel for MirroredKernel<F, S> {
     fn write_cpus(&mut self, group: Group, cpus: IdSet) -> Result<(), KernelFault>
         ensures case { WritesCpus (mirrored self.old.failed self.old.inner) group cpus result
             (mirrored self.new.failed self.new.inner) }
-        ensures asks { Mirrors F.asked self.old.files
-            (Written (self.old.root ++ (folder self.old.inner.tree group ++ cpus_file)) (list_line cpus)) result
-            self.new.files }
+        ensures asks { MirrorsLook F.asked self.old.files
+            (Written (self.old.root ++ (folder self.old.inner.tree group ++ cpus_file)) (list_line cpus))
+            (Compared (self.old.root ++ (folder self.new.inner.tree group ++ cpus_in_effect))
+            (list_line (effective_cpus self.new.inner.tree group))) result self.new.files }
     {
         self.mirror.write_cpus(group, cpus)
     }
@@ -150,7 +172,7 @@ impl<F: GroupFiles, S: Sited> Kernel for MirroredKernel<F, S> {
     fn end_group(&mut self, group: Group) -> Result<(), KernelFault>
         ensures case { EndsGroup (mirrored self.old.failed self.old.inner) group result
             (mirrored self.new.failed self.new.inner) }
-        ensures asks { Mirrors F.asked self.old.files
+        ensures asks { MirrorsAt F.asked self.old.files (place_of self.old.inner.tree group)
             (Written (self.old.root ++ (folder self.old.inner.tree group ++ kill_file)) kill_line) result
             self.new.files }
     {
@@ -163,6 +185,14 @@ impl<F: GroupFiles, S: Sited> Kernel for MirroredKernel<F, S> {
 
     fn find_group(&self, parent: Group, name: &str) -> Result<Option<Group>, KernelFault> {
         self.mirror.inner.find_group(parent, name)
+    }
+
+    fn makable(&self, parent: Group, name: &str) -> Result<(), KernelFault> {
+        self.mirror.inner.makable(parent, name)
+    }
+
+    fn has_pids(&self) -> bool {
+        self.mirror.inner.has_pids()
     }
 
     fn requested_cpus(&self, group: Group) -> Result<&IdSet, KernelFault> {

@@ -1,73 +1,90 @@
 //! The paths of a group's folder and of its files.
-ghost use Rattle.std.specs.Prelude.{◌≡◌, ◌↔◌, ◌++◌, IfOk, IsTrue, OnOk, string_bytes};
+ghost use Rattle.std.specs.Prelude.{◌≡◌, ◌↔◌, ◌+◌, ◌≤◌, ◌++◌, IsTrue, OnOk, length, string_bytes};
 ghost use Rattle.std.specs.List.{list_any};
-ghost use Rattle.cgroup_tree.specs.Paths.{folder, below, is_slash, IsName, list_line};
+ghost use Rattle.std.specs.String.{string_capacity, string_len};
+ghost use Rattle.cgroup_tree.specs.Paths.{folder, below, is_slash, IsName};
 
-use cpu_set::IdSet;
+use crate::room::FILE_ROOM;
 use kernel_model::{Group, Kernel, ModelKernel};
-use std::alloc::{AllocError, Global};
+use std::alloc::AllocError;
+
+/// Puts a text behind another one, in the room that this has.
+pub fn push_within(text: &mut String, more: &str)
+    requires room { string_len text.old + length more.now ≤ string_capacity text.old }
+    ensures bytes { string_bytes text.new ≡ string_bytes text.old ++ more.now }
+    ensures len { string_len text.new ≡ string_len text.old + length more.now }
+    ensures capacity { string_capacity text.old ≤ string_capacity text.new }
+{
+    if text.push_str(more).is_err() {
+        unreachable!()
+    }
+}
 
 /// Puts the folder of a group below the root's behind a text: the names on the way to it, each behind a slash.
-fn push_folder(kernel: &ModelKernel, group: Group, text: &mut String) -> Result<(), AllocError>
-    ensures { OnOk result (string_bytes text.new ≡ string_bytes text.old ++ folder kernel.now.tree group) }
+fn push_folder(kernel: &ModelKernel, group: Group, text: &mut String)
+    requires room { string_len text.old + length (folder kernel.now.tree group) ≤ string_capacity text.old }
+    ensures bytes { string_bytes text.new ≡ string_bytes text.old ++ folder kernel.now.tree group }
+    ensures len { string_len text.new ≡ string_len text.old + length (folder kernel.now.tree group) }
+    ensures capacity { string_capacity text.old ≤ string_capacity text.new }
 {
     kernel.root();
     let Some((parent, name)) = kernel.place(group) else {
-        return Ok(());
+        return;
     };
-    push_folder(kernel, parent, text)?;
-    text.push_str("/")?;
-    text.push_str(name)?;
-    Ok(())
+    push_folder(kernel, parent, text);
+    push_within(text, "/");
+    push_within(text, name);
 }
 
-/// The path of a file in the folder of a group.
-///
-/// # Errors
-/// An allocation failure.
-pub fn path_of(
-    alloc: Global,
-    root: &str,
-    kernel: &ModelKernel,
-    group: Group,
-    file: &str,
-) -> Result<String, AllocError>
-    ensures { IfOk result (λ path. string_bytes path ≡ root.now ++ (folder kernel.now.tree group ++ file.now)) }
+/// Makes the path of a file in the folder of a group.
+pub fn write_path(path: &mut String, root: &str, kernel: &ModelKernel, group: Group, file: &str)
+    requires room { length root.now + (length (folder kernel.now.tree group) + length file.now)
+        ≤ string_capacity path.old }
+    ensures bytes { string_bytes path.new ≡ root.now ++ (folder kernel.now.tree group ++ file.now) }
+    ensures len { string_len path.new ≡ length root.now + (length (folder kernel.now.tree group) + length file.now) }
+    ensures capacity { string_capacity path.old ≤ string_capacity path.new }
 {
-    let mut path = String::from_str(alloc, root)?;
-    push_folder(kernel, group, &mut path)?;
-    path.push_str(file)?;
-    Ok(path)
+    path.clear();
+    push_within(path, root);
+    push_folder(kernel, group, path);
+    push_within(path, file);
 }
 
-/// A set as a line.
-///
-/// # Errors
-/// An allocation failure.
-pub fn line_of(alloc: Global, ids: &IdSet) -> Result<String, AllocError>
-    ensures { IfOk result (λ line. string_bytes line ≡ list_line ids.now) }
-{
-    let mut line = cpu_list::print(alloc, ids)?;
-    line.push_str("\n")?;
-    Ok(line)
-}
-
-/// The path of the folder that a name has in the folder of a group.
-///
-/// # Errors
-/// An allocation failure.
-pub fn path_below(
-    alloc: Global,
+/// Makes the path of the folder that a name has in the folder of a group.
+pub fn write_path_below(
+    path: &mut String,
     root: &str,
     kernel: &ModelKernel,
     parent: Group,
     name: &str,
-) -> Result<String, AllocError>
-    ensures { IfOk result (λ path. string_bytes path ≡ root.now ++ (folder kernel.now.tree parent ++ below name.now)) }
+)
+    requires room { length root.now + (length (folder kernel.now.tree parent) + (length name.now + 1))
+        ≤ string_capacity path.old }
+    ensures bytes { string_bytes path.new ≡ root.now ++ (folder kernel.now.tree parent ++ below name.now) }
+    ensures capacity { string_capacity path.old ≤ string_capacity path.new }
 {
-    let mut path = path_of(alloc, root, kernel, parent, "/")?;
-    path.push_str(name)?;
-    Ok(path)
+    write_path(path, root, kernel, parent, "/");
+    push_within(path, name);
+}
+
+/// Makes room for the paths of a new group's files.
+///
+/// # Errors
+/// An allocation failure.
+pub fn widen(
+    path: &mut String,
+    root: &str,
+    kernel: &ModelKernel,
+    parent: Group,
+    name: &str,
+) -> Result<(), AllocError>
+    requires room { length root.now + (length (folder kernel.now.tree parent) + 1) ≤ string_capacity path.old }
+    ensures wide { OnOk result (length root.now + (length (folder kernel.now.tree parent) + (length name.now + 25))
+        ≤ string_capacity path.new) }
+    ensures capacity { string_capacity path.old ≤ string_capacity path.new }
+{
+    write_path(path, root, kernel, parent, "/");
+    path.reserve(name.len() + FILE_ROOM)
 }
 
 /// Whether this names a folder in another one: it has no slash, and is neither `.` nor `..`, which each folder has.

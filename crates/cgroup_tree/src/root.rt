@@ -1,11 +1,15 @@
 //! A tree is opened, and what its root has to be before that.
-ghost use Rattle.std.specs.Prelude.{◌≡◌, ◌≢◌, ◌++◌, ◌↔◌, [], IfOk, IsTrue, MatchOption, MatchResult, None, option_map};
-ghost use Rattle.std.specs.Prelude.{string_bytes, true};
+ghost use Rattle.std.specs.Prelude.{◌≡◌, ◌≢◌, ◌++◌, ◌↔◌, [], ◌∷◌, IfErr, IfOk, IsTrue, MatchOption, MatchResult, None, OnOk};
+ghost use Rattle.std.specs.Prelude.{List, if◌then◌else◌, string_bytes, true};
 ghost use Rattle.std.specs.FinSet as set;
+ghost use Rattle.std.specs.IoError.{error_kind};
 ghost use Rattle.cpu_set.specs.Ids.{Ids};
 ghost use Rattle.cpu_list.specs.FirstFault.{first_fault};
-ghost use Rattle.cgroup_tree.specs.Roots.{AnswersRoot, CantRead, Has, IsListOf, LooksAtControllers, LooksAtCpus};
-ghost use Rattle.cgroup_tree.specs.Roots.{LooksAtFolder, LooksAtLock, LooksAtMachine, LooksAtMems, names_cpuset};
+ghost use Rattle.cgroup_tree.specs.Asked.{Asked, Asks, AsksSome, HandsOut, Locked, Named, done, is_made};
+ghost use Rattle.cgroup_tree.specs.Roots.{AnswersRoot, CpusTell, FindsNoMore, IsListOf, IsLockFaultOf};
+ghost use Rattle.cgroup_tree.specs.Roots.{LooksAtControllers, LooksAtCpus, LooksAtFolder, LooksAtLock, LooksAtMachine};
+ghost use Rattle.cgroup_tree.specs.Roots.{LooksAtMems, MachineTells, MemsTell, RootTells, TellsOthers, TellsUnlessNone};
+ghost use Rattle.cgroup_tree.specs.Roots.{names_cpuset, remark_of};
 
 use crate::{Difference, GroupTrees, RootFault};
 use cpu_set::{CPU_LIMIT, IdSet};
@@ -41,11 +45,11 @@ pub struct OpenTree<F> {
 /// from the root as long as they live.
 ///
 /// # Errors
-/// In this order: [`RootFault::Unread`] where the root is no folder, [`RootFault::Taken`], [`RootFault::NoCpuset`],
-/// [`RootFault::OtherMachine`]; and `Unread` or `Memory` where a file can't be read.
-pub fn open_tree<T: GroupTrees + Drop>(
+/// In this order: [`RootFault::Unread`] where the root is no folder, [`RootFault::Taken`] or [`RootFault::Unlocked`],
+/// [`RootFault::NoCpuset`], [`RootFault::OtherMachine`]; and `Unread` or `Memory` where a file can't be read.
+pub fn open_tree<T: GroupTrees>(
     alloc: Global,
-    trees: T,
+    trees: &mut T,
     root: &str,
     online: &IdSet,
     nodes: &IdSet,
@@ -55,22 +59,29 @@ pub fn open_tree<T: GroupTrees + Drop>(
     // looks are whether it is a folder, whether another program has it, its controllers, its CPUs in effect and its
     // nodes in effect.
     ensures answers { MatchResult result
-        (λ tree. AnswersRoot (T.finds trees) root.now online.now nodes.now (Ok tree.memory))
-        (λ why. AnswersRoot (T.finds trees) root.now online.now nodes.now (Err why)) }
+        (λ tree. AnswersRoot (T.finds trees.old) root.now online.now nodes.now (Ok tree.memory))
+        (λ why. AnswersRoot (T.finds trees.old) root.now online.now nodes.now (Err why)) }
     ensures root { IfOk result (λ tree. string_bytes tree.root ≡ root.now) }
-    // The files are of one tree, opened as it is told to, and once: it takes the value that gives access to them.
     ensures adopt { IfOk result (λ tree. tree.adopt ≡ adopt) }
-    // Nothing was asked of them yet.
-    ensures unasked { IfOk result (λ tree. T.Files.asked tree.files adopt []) }
-    // The files hold the root's own lock, which lives as long as they do.
-    ensures kept { IfOk result (λ tree. T.keeps tree.files root.now) }
+    // Nothing was asked of its files yet, which were opened as it is told to, and hold the root's own lock.
+    ensures unasked { IfOk result (λ tree. T.Files.asked tree.files (record {
+      adopt = adopt;
+      locked = root.now;
+    }) []) }
+    // Of the trees nothing was asked but to keep other programs from this root, and to tell what was found there
+    // (`RootTells`). If the root is refused, no files are out.
+    ensures taken { IfOk result (λ tree. (asked : List Asked)
+        × RootTells (T.finds trees.old) root.now online.now nodes.now adopt (Ok tree.memory) asked
+        × HandsOut T.asked trees.old asked trees.new) }
+    ensures refused { IfErr result (λ why. AsksSome T.asked trees.old
+        (RootTells (T.finds trees.old) root.now online.now nodes.now adopt (Err why)) trees.new) }
 {
-    look_at_folder(&trees, root)?;
-    let lock = lock_root(&trees, root)?;
-    let memory = memory_of(alloc, &trees, root, online, nodes, adopt)?;
-    let root = String::from_str(alloc, root)?;
+    look_at_folder(trees, root)?;
+    let text = String::from_str(alloc, root)?;
+    let lock = lock_root(trees, root)?;
+    let memory = memory_of(alloc, trees, root, online, nodes, adopt)?;
     Ok(OpenTree {
-        root,
+        root: text,
         memory,
         adopt,
         files: trees.files(lock, adopt),
@@ -82,22 +93,31 @@ pub fn open_tree<T: GroupTrees + Drop>(
 /// operator.
 fn memory_of<T: GroupTrees>(
     alloc: Global,
-    trees: &T,
+    trees: &mut T,
     root: &str,
     online: &IdSet,
     nodes: &IdSet,
     adopt: bool,
 ) -> Result<IdSet, RootFault>
-    ensures { LooksAtMachine (T.finds trees.now) root.now online.now nodes.now result }
+    ensures looks { LooksAtMachine (T.finds trees.old) root.now online.now nodes.now result }
+    ensures tells { AsksSome T.asked trees.old
+        (MachineTells (T.finds trees.old) root.now online.now nodes.now adopt result) trees.new }
 {
     look_at_controllers(alloc, trees, root)?;
+    let group = path_below(alloc, root, GROUP)?;
     look_at_cpus(alloc, trees, root, online)?;
     let memory = look_at_mems(alloc, trees, root, nodes)?;
-    if adopt {
-        let group = path_below(alloc, root, GROUP)?;
-        trees.name_folders(alloc, group.as_str());
-    }
+    name_strangers(alloc, trees, group.as_str(), adopt);
     Ok(memory)
+}
+
+/// Names the folders of a run before, where they may be there.
+fn name_strangers<T: GroupTrees>(alloc: Global, trees: &mut T, group: &str, adopt: bool)
+    ensures { Asks T.asked trees.old (if adopt then done (Named group.now) ∷ [] else []) trees.new }
+{
+    if adopt {
+        trees.name_folders(alloc, group);
+    }
 }
 
 fn look_at_folder<T: GroupTrees>(trees: &T, root: &str) -> Result<(), RootFault>
@@ -111,20 +131,34 @@ fn look_at_folder<T: GroupTrees>(trees: &T, root: &str) -> Result<(), RootFault>
 }
 
 /// What keeps other programs from the root, as long as it lives.
-fn lock_root<T: GroupTrees>(trees: &T, root: &str) -> Result<T::Lock, RootFault>
-    ensures looks { LooksAtLock (T.finds trees.now) root.now result }
+fn lock_root<T: GroupTrees>(trees: &mut T, root: &str) -> Result<T::Lock, RootFault>
+    ensures looks { LooksAtLock (T.finds trees.old) root.now result }
     ensures locks { IfOk result (λ lock. T.locks lock root.now) }
+    ensures finds { FindsNoMore (T.finds trees.old) (T.finds trees.new) }
+    ensures asked { Asks T.asked trees.old (record { deed = Locked root.now; done = is_made result } ∷ []) trees.new }
 {
     match trees.lock(root) {
-        Some(lock) => Ok(lock),
-        None => Err(RootFault::Taken),
+        Ok(Some(lock)) => Ok(lock),
+        Ok(None) => Err(RootFault::Taken),
+        Err(error) => Err(unlocked(error)),
+    }
+}
+
+/// Why a root can't be locked.
+fn unlocked(error: io::Error) -> RootFault
+    ensures { IsLockFaultOf (error_kind error) result }
+{
+    match error.kind() {
+        ErrorKind::OutOfMemory => RootFault::Memory,
+        kind => RootFault::Unlocked(kind),
     }
 }
 
 fn look_at_controllers<T: GroupTrees>(alloc: Global, trees: &T, root: &str) -> Result<(), RootFault>
     ensures { LooksAtControllers (T.finds trees.now) root.now result }
 {
-    let Some(text) = read_below(alloc, trees, root, CONTROLLERS)? else {
+    let path = path_below(alloc, root, CONTROLLERS)?;
+    let Some(text) = trees.read(alloc, path.as_str())? else {
         return Ok(());
     };
     if names_cpuset(text.as_slice()) {
@@ -136,84 +170,74 @@ fn look_at_controllers<T: GroupTrees>(alloc: Global, trees: &T, root: &str) -> R
 
 fn look_at_cpus<T: GroupTrees>(
     alloc: Global,
-    trees: &T,
+    trees: &mut T,
     root: &str,
     online: &IdSet,
 ) -> Result<(), RootFault>
-    ensures { LooksAtCpus (T.finds trees.now) root.now online.now result }
+    ensures looks { LooksAtCpus (T.finds trees.old) root.now online.now result }
+    ensures tells { AsksSome T.asked trees.old (CpusTell (T.finds trees.old) root.now online.now result) trees.new }
+    ensures same { OnOk result (trees.new ≡ trees.old) }
 {
-    let Some(text) = read_below(alloc, trees, root, CPUS_IN_EFFECT)? else {
+    let path = path_below(alloc, root, CPUS_IN_EFFECT)?;
+    let Some(text) = trees.read(alloc, path.as_str())? else {
         return Ok(());
     };
     if is_list_of(text.as_slice(), online) {
-        Ok(())
-    } else {
-        tell_others(
-            alloc,
-            trees,
-            root,
-            CPUS_IN_EFFECT,
-            text.as_slice(),
-            online,
-            online,
-        );
-        Err(RootFault::OtherMachine)
+        return Ok(());
     }
+    tell_others(trees, path.as_str(), text.as_slice(), online, online);
+    Err(RootFault::OtherMachine)
 }
 
 fn look_at_mems<T: GroupTrees>(
     alloc: Global,
-    trees: &T,
+    trees: &mut T,
     root: &str,
     nodes: &IdSet,
 ) -> Result<IdSet, RootFault>
-    ensures { LooksAtMems (T.finds trees.now) root.now nodes.now result }
+    ensures looks { LooksAtMems (T.finds trees.old) root.now nodes.now result }
+    ensures tells { AsksSome T.asked trees.old (MemsTell (T.finds trees.old) root.now nodes.now result) trees.new }
 {
-    let Some(text) = read_below(alloc, trees, root, MEMS_IN_EFFECT)? else {
+    let path = path_below(alloc, root, MEMS_IN_EFFECT)?;
+    let Some(text) = trees.read(alloc, path.as_str())? else {
         return Ok(*nodes);
     };
-    match nodes_in(text.as_slice(), nodes) {
-        Some(memory) => Ok(memory),
-        None => {
-            tell_others(
-                alloc,
-                trees,
-                root,
-                MEMS_IN_EFFECT,
-                text.as_slice(),
-                &IdSet::empty(),
-                nodes,
-            );
-            Err(RootFault::OtherMachine)
+    if let Some(memory) = nodes_in(text.as_slice(), nodes) {
+        return Ok(memory);
+    }
+    let none = IdSet::empty();
+    tell_others(trees, path.as_str(), text.as_slice(), &none, nodes);
+    Err(RootFault::OtherMachine)
+}
+
+/// Tells the operator by what a file's text makes its root another machine's: which numbers it lacks of the least that
+/// it has to have, and which it has besides the most; or that it is no list.
+fn tell_others<T: GroupTrees>(trees: &mut T, path: &str, text: &[u8], least: &IdSet, most: &IdSet)
+    ensures { AsksSome T.asked trees.old (TellsOthers path.now text.now least.now most.now) trees.new }
+{
+    match set_in(text) {
+        None => trees.tell(path, Difference::NoList),
+        Some(found) => {
+            let (lacks, besides) = (least.minus(&found), found.minus(most));
+            tell_unless_none(trees, path, &lacks, Difference::Lacks(&lacks));
+            tell_unless_none(trees, path, &besides, Difference::HasBesides(&besides));
         }
     }
 }
 
-/// Tells the operator by what a file's text makes its root another machine's, where no allocation for that fails: which
-/// numbers it lacks of the least that it has to have, and which it has besides the most; or that it is no list.
-fn tell_others<T: GroupTrees>(
-    alloc: Global,
-    trees: &T,
-    root: &str,
-    file: &str,
-    text: &[u8],
-    least: &IdSet,
-    most: &IdSet,
-) {
-    let Ok(path) = path_below(alloc, root, file) else {
+/// Tells the operator of a difference by these numbers, if there are any.
+fn tell_unless_none<T: GroupTrees>(
+    trees: &mut T,
+    path: &str,
+    numbers: &IdSet,
+    difference: Difference<'_>,
+)
+    ensures { AsksSome T.asked trees.old (TellsUnlessNone path.now numbers.now (remark_of difference.entry)) trees.new }
+{
+    if numbers.is_empty() {
         return;
-    };
-    let Some(found) = set_in(text) else {
-        trees.tell(path.as_str(), Difference::NoList);
-        return;
-    };
-    let (lacks, besides) = (least.minus(&found), found.minus(most));
-    if !lacks.is_empty() {
-        trees.tell(path.as_str(), Difference::Lacks(&lacks));
     }
-    if !besides.is_empty() {
-        trees.tell(path.as_str(), Difference::HasBesides(&besides));
-    }
+    trees.tell(path, difference);
 }
 
 fn path_below(alloc: Global, root: &str, file: &str) -> Result<String, AllocError>
@@ -222,20 +246,6 @@ fn path_below(alloc: Global, root: &str, file: &str) -> Result<String, AllocErro
     let mut path = String::from_str(alloc, root)?;
     path.push_str(file)?;
     Ok(path)
-}
-
-fn read_below<T: GroupTrees>(
-    alloc: Global,
-    trees: &T,
-    root: &str,
-    file: &str,
-) -> Result<Option<Vec<u8>>, RootFault>
-    ensures { MatchResult result
-        (λ text. T.finds trees.now (root.now ++ file.now) (Has (option_map (λ bytes. bytes.items) text)))
-        (λ why. CantRead (T.finds trees.now) root.now file.now why) }
-{
-    let path = path_below(alloc, root, file)?;
-    Ok(trees.read(alloc, path.as_str())?)
 }
 
 /// The set that a file's text names, if it is a list.

@@ -1,3 +1,4 @@
+//! Types that stand for the place of a kernel's writes.
 ghost use Rattle.cgroup_tree.specs.Site.{Site, nowhere};
 
 use std::marker::Brand;

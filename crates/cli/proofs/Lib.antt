@@ -6,3 +6,4 @@ pub mod ReadWords
 pub mod Rows
 pub mod RunWords
 pub mod Solutions
+pub mod Leaving

@@ -1,21 +1,20 @@
 -- What the program does: which bytes go to which stream, and its exit status.
-use Rattle.std.specs.Prelude.{◌≡◌, ◌⊎◌, ℕ, ◌-◌, ◌^◌, List, [], Bool, Option, Some, None, Result, Ok, Err, unwrap_or}
+use Rattle.std.specs.Prelude.{◌≡◌, ◌⊎◌, ℕ, ◌-◌, ◌^◌, List, [], ◌++◌, Bool, Option, Some, None, Result, Ok, Err, unwrap_or}
 use Rattle.std.specs.declared.io.ErrorKind.{ErrorKind as SystemKind}
-use Rattle.cgroup_tree.specs.Asked.{Asked as FileCall}
-use Rattle.cgroup_tree.specs.Roots.{AnswersRoot, Finding}
+use Rattle.cgroup_tree.specs.Asked.{Asked as FileCall, Asks, HandsBack, Opening}
+use Rattle.cgroup_tree.specs.Roots.{AnswersRoot, Finding, RootTells}
 use Rattle.cgroup_tree.specs.Site.{Site}
 use Rattle.clap.specs.Words.{IsAmong, Text}
 use Rattle.clap.specs.declared.error.kind.ErrorKind.{ErrorKind}
 use Rattle.clap.specs.declared.error.kind.ErrorKind.TheVariants.{DisplayHelp, DisplayVersion, OutOfMemory}
 use Rattle.cpu_set.specs.Ids.{Ids}
 use Rattle.faults.specs.declared.OrMemory.{OrMemory}
-use Rattle.faults.specs.declared.OrMemory.TheVariants.{Memory}
 use Rattle.kernel_model.specs.declared.KernelFault.{KernelFault}
 use Rattle.machine.specs.Layout.{Layout}
 use Rattle.machine.specs.Nodes.{nodes_of}
 use Rattle.node.specs.NodeState.{NodeState}
 use Rattle.runtime.specs.Boots.{Boots}
-use Rattle.runtime.specs.MirroredNodes.{IsNotBooted, site_of}
+use Rattle.runtime.specs.MirroredNodes.{BootsNot, site_of}
 use Rattle.runtime.specs.RuntimeState.{Told}
 use Rattle.script.specs.declared.running.TheConstants.{MOST_READS}
 use Rattle.script.specs.declared.fault.ScriptFault.{ScriptFault}
@@ -66,10 +65,10 @@ module _ {W E : Type 0} (out : W → Option (List ℕ)) (err : E → Option (Lis
   Performs finds most n told script script' = (mid : Console W E) × (end : Result (Unit {0}) ScriptFault)
       × Plays finds most n told script script' (contents_of out old.out) (contents_of out mid.out) end × (mid.err ≡ old.err) × Finishes out err mid new status end
 
-  -- the script was run so over a node whose kernel's writes are made in files too
-  abbrev pub PerformsMirrored : {F : Type 0} → (F → Bool → List FileCall → Type 0) → Site → (Text → Option Text → Type 0) → ℕ → NodeState → Told → Option (List ℕ) → Option (List ℕ) → Type 0
-  PerformsMirrored asked site finds most n told script script' = (mid : Console W E) × (end : Result (Unit {0}) ScriptFault)
-      × PlaysMirrored asked site finds most n told script script' (contents_of out old.out) (contents_of out mid.out) end × (mid.err ≡ old.err) × Finishes out err mid new status end
+  -- the script was run so over a node whose kernel's writes are made in files too, and this holds of what they were asked for
+  abbrev pub PerformsMirrored : {F : Type 0} → (F → Opening → List FileCall → Type 0) → Site → (List FileCall → Type 0) → (Text → Option Text → Type 0) → ℕ → NodeState → Told → Option (List ℕ) → Option (List ℕ) → Type 0
+  PerformsMirrored asked site Leaves finds most n told script script' = (mid : Console W E) × (end : Result (Unit {0}) ScriptFault)
+      × PlaysMirrored asked site Leaves finds most n told script script' (contents_of out old.out) (contents_of out mid.out) end × (mid.err ≡ old.err) × Finishes out err mid new status end
 
   -- one of the two files is refused
   abbrev pub Refuses : Text → Option Text → Unready → Type 0
@@ -84,11 +83,11 @@ module _ {W E : Type 0} (out : W → Option (List ℕ)) (err : E → Option (Lis
   RefusesRoot root why = Says out err old new status (root_line why) 1 (root_note root why)
 
   -- the script was run over a new node of the machine, whose kernel's writes are made in this place too; or its group can't
-  -- be made there
-  abbrev pub ScriptsMirroredAt : {F : Type 0} → (F → Bool → List FileCall → Type 0) → Layout → Site → (Text → Option Text → Type 0) → Told → Option (List ℕ) → Option (List ℕ) → Type 0
-  ScriptsMirroredAt asked m site finds told script script' =
-      ((n : NodeState) × Boots m n × PerformsMirrored asked site finds (2 ^ 64 - 1) n told script script')
-      ⊎ ((error : OrMemory KernelFault) × ((error ≡ Memory) ⊎ IsNotBooted asked site m error) × Says out err old new status (root_line (unrooted_of error)) 1 [])
+  -- be made there. This holds of what the files were asked for.
+  abbrev pub ScriptsMirroredAt : {F : Type 0} → (F → Opening → List FileCall → Type 0) → Layout → Site → (List FileCall → Type 0) → (Text → Option Text → Type 0) → Told → Option (List ℕ) → Option (List ℕ) → Type 0
+  ScriptsMirroredAt asked m site Leaves finds told script script' =
+      ((n : NodeState) × Boots m n × PerformsMirrored asked site Leaves finds (2 ^ 64 - 1) n told script script')
+      ⊎ ((error : OrMemory KernelFault) × BootsNot asked site m error Leaves × Says out err old new status (root_line (unrooted_of error)) 1 [])
 
   -- the files that may be opened under a name, the errors by which that may fail, and what the reading of one may answer
   module _ {I : Type 0} (opens : Text → I → Type 0) (fails : Text → SystemKind → Type 0) (gives : I → Reading → Type 0) where
@@ -100,25 +99,33 @@ module _ {W E : Type 0} (out : W → Option (List ℕ)) (err : E → Option (Lis
         × (((n : NodeState) × Boots m n × Performs sees MOST_READS n told script script') ⊎ LacksRoom))
         ⊎ ((why : Unready) × SetsUp opens fails gives machine table (Err why) × Refuses machine table why)
 
-    -- what the files of a cgroup tree were asked for, and what a look at a path may find
-    module _ {F : Type 0} (asked : F → Bool → List FileCall → Type 0) (finds : Text → Finding → Type 0) where
+    -- what the files of a cgroup tree were asked for, and what a look at a path may find; what was asked of trees, before and after
+    module _ {F T : Type 0} (asked : F → Opening → List FileCall → Type 0) (finds : Text → Finding → Type 0) (asked_of : T → Bool → List FileCall → Type 0) (trees trees' : T) where
+      -- nothing was asked of any tree
+      abbrev pub Unasked : Type 0
+      Unasked = Asks asked_of trees [] trees'
+
       -- the same as `Scripts` in a cgroup tree, below the root that is named, opened with folders of a run before or without;
-      -- or the root is refused
+      -- or the root is refused. What was asked of trees is what the root was opened by, and then what the node's kernel asked
+      -- for; and where a file is refused nothing was asked.
       abbrev pub ScriptsMirrored : (Text → Option Text → Type 0) → Told → Option (List ℕ) → Option (List ℕ) → Text → Option Text → Text → Bool → Type 0
       ScriptsMirrored sees told script script' machine table root adopt =
           ((m : Layout) × SetsUp opens fails gives machine table (Ok m)
-          × (((memory : Ids) × AnswersRoot finds root m.online (nodes_of m) (Ok memory) × ScriptsMirroredAt asked m (site_of m root memory adopt) sees told script script')
-          ⊎ ((why : Unrooted) × IsNotRooted finds root m why × RefusesRoot root why)))
-          ⊎ ((why : Unready) × SetsUp opens fails gives machine table (Err why) × Refuses machine table why)
+          × (((memory : Ids) × AnswersRoot finds root m.online (nodes_of m) (Ok memory)
+          × ((opened : List FileCall) × RootTells finds root m.online (nodes_of m) adopt (Ok memory) opened
+          × ScriptsMirroredAt asked m (site_of m root memory adopt) (λ calls. HandsBack asked_of trees (calls ++ opened) trees') sees told script script'))
+          ⊎ ((why : Unrooted) × IsNotRooted finds root adopt m why (λ calls. Asks asked_of trees calls trees') × RefusesRoot root why)))
+          ⊎ ((why : Unready) × SetsUp opens fails gives machine table (Err why) × Refuses machine table why × Unasked)
 
-      -- what is asked for is done, over these files, these bundles, and what the reading of standard input may answer
+      -- what is asked for is done, over these files, these bundles, and what the reading of standard input may answer. Of trees
+      -- nothing is asked, unless a script is run in one.
       abbrev pub Does : (Text → Option Text → Type 0) → (Reading → Type 0) → Option (List ℕ) → Asked → Type 0
-      Does sees input script (check file) = Checks out err old new status (reads_named (Reads opens fails gives) input (name_of file)) (shown (name_of file))
-      Does sees input script (list text) = Lists out err old new status text
-      Does sees input script (slit file) = Tabulates out err old new status (reads_named (Reads opens fails gives) input file) (shown file)
-      Does sees input script (run machine table None adopt) = (script' : Option (List ℕ)) × Scripts sees None script script' machine table
+      Does sees input script (check file) = Checks out err old new status (reads_named (Reads opens fails gives) input (name_of file)) (shown (name_of file)) × Unasked
+      Does sees input script (list text) = Lists out err old new status text × Unasked
+      Does sees input script (slit file) = Tabulates out err old new status (reads_named (Reads opens fails gives) input file) (shown file) × Unasked
+      Does sees input script (run machine table None adopt) = ((script' : Option (List ℕ)) × Scripts sees None script script' machine table) × Unasked
       Does sees input script (run machine table (Some root) adopt) = (script' : Option (List ℕ)) × ScriptsMirrored sees None script script' machine table root adopt
-      Does sees input script (solve file) = Solves out err old new status (reads_named (Reads opens fails gives) input (name_of file)) (shown (name_of file))
+      Does sees input script (solve file) = Solves out err old new status (reads_named (Reads opens fails gives) input (name_of file)) (shown (name_of file)) × Unasked
 
   -- the help or the version goes to standard output with status 0, and what a mistake is to standard error with
   -- status 2; clap's contracts don't tell the text
@@ -133,9 +140,10 @@ module _ {W E : Type 0} (out : W → Option (List ℕ)) (err : E → Option (Lis
   abbrev pub ExplainsOrLacks : Type 0 → ErrorKind → Type 0
   ExplainsOrLacks lacks kind = Explains kind ⊎ (lacks × LacksMemory)
 
-  -- what the program does with words: they are obeyed or explained, or an allocation failed while they were parsed
-  abbrev pub Runs : (List Text → ErrorKind → Type 0) → Type 0 → (Asked → Type 0) → List Text → Type 0
-  Runs fails lacks does words =
+  -- what the program does with words: they are obeyed; or explained, or an allocation failed while they were parsed, and
+  -- nothing was asked of any tree
+  abbrev pub Runs : (List Text → ErrorKind → Type 0) → (lacks unasked : Type 0) → (Asked → Type 0) → List Text → Type 0
+  Runs fails lacks unasked does words =
       ((mistakes words ≡ []) × does (asked_for words))
-      ⊎ (((kind : ErrorKind) × IsAmong kind (mistakes words) × fails words kind × ExplainsOrLacks lacks kind)
-      ⊎ (fails words OutOfMemory × LacksMemory))
+      ⊎ ((((kind : ErrorKind) × IsAmong kind (mistakes words) × fails words kind × ExplainsOrLacks lacks kind)
+      ⊎ (fails words OutOfMemory × LacksMemory)) × unasked)

@@ -1,6 +1,7 @@
 -- What is printed if the root of a cgroup tree is refused.
-use Rattle.std.specs.Prelude.{◌≡◌, ℕ, List, [], codes, Err}
-use Rattle.cgroup_tree.specs.Roots.{AnswersRoot, Finding}
+use Rattle.std.specs.Prelude.{◌≡◌, ℕ, Bool, List, [], codes, Err}
+use Rattle.cgroup_tree.specs.Asked.{Asked}
+use Rattle.cgroup_tree.specs.Roots.{AnswersRoot, Finding, RootTells}
 use Rattle.cgroup_tree.specs.declared.RootFault.{RootFault}
 use Rattle.cgroup_tree.specs.declared.RootFault.TheVariants as root_fault
 use Rattle.clap.specs.Words.{Text}
@@ -22,6 +23,7 @@ use Rattle.cli.specs.declared.unrooted.Unrooted.TheVariants as unrooted
 abbrev pub IsUnrooted : RootFault → Unrooted → Type 0
 IsUnrooted root_fault.Memory why = why ≡ unrooted.Memory
 IsUnrooted root_fault.Taken why = why ≡ unrooted.Taken
+IsUnrooted (root_fault.Unlocked kind) why = why ≡ unrooted.Unlocked
 IsUnrooted (root_fault.Unread kind) why = (told : ReadFault) × IsTold kind told × (why ≡ unrooted.Unread told)
 IsUnrooted root_fault.NoCpuset why = why ≡ unrooted.NoCpuset
 IsUnrooted root_fault.OtherMachine why = why ≡ unrooted.OtherMachine
@@ -31,9 +33,10 @@ abbrev pub unrooted_of : OrMemory KernelFault → Unrooted
 unrooted_of Memory = unrooted.Memory
 unrooted_of (Fault fault) = unrooted.Kernel
 
--- the root is not taken for this machine, by what was found of it
-abbrev pub IsNotRooted : (List ℕ → Finding → Type 0) → Text → Layout → Unrooted → Type 0
-IsNotRooted finds root m why = (fault : RootFault) × AnswersRoot finds root m.online (nodes_of m) (Err fault) × IsUnrooted fault why
+-- the root is not taken for this machine, by what was found of it; and this holds of what was asked of trees for that
+abbrev pub IsNotRooted : (List ℕ → Finding → Type 0) → Text → Bool → Layout → Unrooted → (List Asked → Type 0) → Type 0
+IsNotRooted finds root adopt m why Leaves = (fault : RootFault) × AnswersRoot finds root m.online (nodes_of m) (Err fault) × IsUnrooted fault why
+    × ((asked : List Asked) × RootTells finds root m.online (nodes_of m) adopt (Err fault) asked × Leaves asked)
 
 abbrev pub root_line : Unrooted → List ℕ
 root_line (unrooted.Unread fault) = refusal_line (refusal.ReadFault fault)
@@ -41,10 +44,12 @@ root_line unrooted.Memory = refusal_line refusal.Memory
 root_line unrooted.NoCpuset = codes "refused E115 NoCpuset\n"
 root_line unrooted.OtherMachine = codes "refused E116 OtherMachine\n"
 root_line unrooted.Taken = codes "refused E50 KernelFault\n"
+root_line unrooted.Unlocked = codes "refused E50 KernelFault\n"
 root_line unrooted.Kernel = codes "refused E50 KernelFault\n"
 
--- beside it, where the root can't be read, or another program has it
+-- beside it, where the root can't be read or locked, or another program has it
 abbrev pub root_note : Text → Unrooted → List ℕ
 root_note root (unrooted.Unread fault) = note_of root (refusal.ReadFault fault)
+root_note root unrooted.Unlocked = error_line root (codes "can't be locked")
 root_note root unrooted.Taken = error_line root (codes "another program has it")
 root_note root why = []

@@ -1,6 +1,6 @@
 -- What is run of a script, and how its end is told.
-use Rattle.std.specs.Prelude.{◌≡◌, ℕ, Bool, List, Option, Some, None, Result}
-use Rattle.cgroup_tree.specs.Asked.{Asked}
+use Rattle.std.specs.Prelude.{◌≡◌, ℕ, List, Option, Some, None, Result}
+use Rattle.cgroup_tree.specs.Asked.{Asked, Opening}
 use Rattle.cgroup_tree.specs.Site.{Site}
 use Rattle.node.specs.NodeState.{NodeState}
 use Rattle.runtime.specs.Answered.{AnsweredBy}
@@ -25,7 +25,8 @@ Plays finds most n told read read' out out' end =
     (final : RuntimeState) × EndsBy most (AnsweredBy finds) read read' out out' (record { node = n; told = told }) end final
 
 -- the script is run so over a node whose kernel's writes are made in files too. At the end all that these were asked for is
--- what the calls of the node's kernel stand for, in their order, in this place.
-abbrev pub PlaysMirrored : {F : Type 0} → (F → Bool → List Asked → Type 0) → Site → (List ℕ → Option (List ℕ) → Type 0) → ℕ → NodeState → Told → Option (List ℕ) → Option (List ℕ) → Option (List ℕ) → Option (List ℕ) → Result (Unit {0}) ScriptFault → Type 0
-PlaysMirrored asked site finds most n told read read' out out' end =
-    (final : RuntimeState) × EndsBy most (AnsweredBy finds) read read' out out' (record { node = n; told = told }) end final × IsMirroredNode asked site final.node
+-- what the calls of the node's kernel stand for, in their order, in this place; and this holds of just these calls.
+abbrev pub PlaysMirrored : {F : Type 0} → (F → Opening → List Asked → Type 0) → Site → (List Asked → Type 0) → (List ℕ → Option (List ℕ) → Type 0) → ℕ → NodeState → Told → Option (List ℕ) → Option (List ℕ) → Option (List ℕ) → Option (List ℕ) → Result (Unit {0}) ScriptFault → Type 0
+PlaysMirrored asked site Leaves finds most n told read read' out out' end =
+    (final : RuntimeState) × EndsBy most (AnsweredBy finds) read read' out out' (record { node = n; told = told }) end final
+    × ((its : IsMirroredNode asked site final.node) × Leaves its.mirrored.calls)

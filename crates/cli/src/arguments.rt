@@ -1,5 +1,6 @@
 //! The program from its arguments on.
-ghost use Rattle.std.specs.Prelude.{◌≡◌, MatchResult, drop, map, string_bytes};
+ghost use Rattle.std.specs.Prelude.{◌≡◌, [], MatchResult, drop, map, string_bytes};
+ghost use Rattle.cgroup_tree.specs.Asked.{Asks};
 ghost use Rattle.cli.specs.Configs.{IsConfigIn};
 ghost use Rattle.cli.specs.Program.{Does, Runs};
 ghost use Rattle.cli.specs.Start.{Stops};
@@ -20,22 +21,23 @@ const NO_TEXT: &str = "error: the words of the command line are not UTF-8\n";
 ///
 /// The status is 1 where an allocation for the words failed, and 2 where they are no text; beyond that see
 /// [`run_program`].
-pub fn start<G: Grammar, F: Opens, T: GroupTrees + Drop, R: Read + Input, W: Write, E: Write>(
+pub fn start<G: Grammar, F: Opens, T: GroupTrees, R: Read + Input, W: Write, E: Write>(
     alloc: Global,
     grammar: &G,
     arguments: io::Result<Vec<String>>,
     files: &F,
-    trees: T,
+    trees: &mut T,
     input: R,
     console: &mut Console<W, E>,
 ) -> u8
     // It is `run_program` from the arguments on.
     ensures { MatchResult arguments
         (λ given. Runs W.contents E.contents console.old console.new result (G.fails grammar.now) (G.lacks grammar.now)
+        (Asks T.asked trees.old [] trees.new)
         (Does W.contents E.contents console.old console.new result (F.opens files.now) (F.fails files.now) F.File.gives
-        T.Files.asked (T.finds trees) (IsConfigIn F.opens F.fails F.File.gives) (R.Input.gives input)
-        (R.Read.remaining input)) (map string_bytes (drop 1 given.items)))
-        (Stops W.contents E.contents console.old console.new result) }
+        T.Files.asked (T.finds trees.old) T.asked trees.old trees.new (IsConfigIn F.opens F.fails F.File.gives)
+        (R.Input.gives input) (R.Read.remaining input)) (map string_bytes (drop 1 given.items)))
+        (λ error. Stops W.contents E.contents console.old console.new result error × Asks T.asked trees.old [] trees.new) }
 {
     match arguments {
         Ok(arguments) => {

@@ -8,6 +8,7 @@ ghost use Rattle.cli.specs.CommandLine.{IsLeaf, bare, check_command, flag, list_
 ghost use Rattle.cli.specs.CommandLine.{run_command, slit_command, solve_command};
 ghost use Rattle.cli.specs.Mistakes.{lacks_root, refusals};
 
+use crate::shown::Lines;
 use crate::words::{Grammar, Words, asked_words};
 use clap::error::ErrorKind;
 use clap::{Arg, ArgAction, ArgMatches, Command, Error};
@@ -17,7 +18,8 @@ const VERSION: &str = "1.0.0";
 
 const HELP: &str =
     "Exit status: 0; 1 if an input is refused or can't be read, if an allocation fails, or if the answer\n\
-    can't be written; 2 if the words are no command line, or if an allocation fails while they are parsed.\n\n\
+    can't be written; 2 if the words are no command line, or if an allocation fails while they are parsed,\n\
+    or while the help or a mistake is put into words.\n\n\
     Formats and refusals: docs/formats.md. Paths begin at the top of a checkout, or, once installed, at\n\
     PREFIX/share/doc/numarun.\n\n\
     Example: numarun check examples/two-containers.certificate";
@@ -28,20 +30,21 @@ const CHECK_HELP: &str =
     if it shows that there is none, else why it is refused.\n\n\
     Exit status: 0 if it proves or shows that; 1 if it is refused or can't be read, if an allocation fails, or\n\
     if the answer can't be written; 2 if the words are no command line, or if an allocation fails while they\n\
-    are parsed.\n\n\
+    are parsed, or while the help or a mistake is put into words.\n\n\
     Format: docs/formats.md, \"Certificates\".\n\n\
     Example: numarun check examples/two-containers.certificate";
 
 const LIST_HELP: &str =
     "Exit status: 0 if the text is a list; 1 if it is refused, if an allocation fails, or if the answer can't\n\
-    be written; 2 if the words are no command line, or if an allocation fails while they are parsed.\n\n\
+    be written; 2 if the words are no command line, or if an allocation fails while they are parsed, or\n\
+    while the help or a mistake is put into words.\n\n\
     Format: docs/formats.md, \"Lists\".\n\n\
     Example: numarun list 3,1-2 prints 1-3";
 
 const SLIT_HELP: &str =
     "Exit status: 0 if the bytes are a table; 1 if they are refused or can't be read, if an allocation fails,\n\
     or if the answer can't be written; 2 if the words are no command line, or if an allocation fails while\n\
-    they are parsed.\n\n\
+    they are parsed, or while the help or a mistake is put into words.\n\n\
     Format: docs/formats.md, \"Distance tables\".\n\n\
     Example: numarun slit /sys/firmware/acpi/tables/SLIT";
 
@@ -69,7 +72,8 @@ const RUN_HELP: &str =
     \x20 online CPU            the CPU comes online\n\n\
     Exit status: 0 if the script was read to its end; 1 if MACHINE, FILE or ROOT is refused, if an input\n\
     can't be read, if an allocation for the machine fails, or if an answer can't be written; 2 if the words\n\
-    are no command line, or if an allocation fails while they are parsed.\n\n\
+    are no command line, or if an allocation fails while they are parsed, or while the help or a mistake is\n\
+    put into words.\n\n\
     Formats: docs/formats.md, \"Scripts\", \"The machine file\" and \"In a cgroup tree\".\n\n\
     Example: numarun run examples/machines/two-socket.json < examples/scripts/two-containers";
 
@@ -78,7 +82,7 @@ const SOLVE_HELP: &str =
     check.\n\n\
     Exit status: 0 if the problem is solved; 1 if it is refused or can't be read, if an allocation fails, or\n\
     if the answer can't be written; 2 if the words are no command line, or if an allocation fails while they\n\
-    are parsed.\n\n\
+    are parsed, or while the help or a mistake is put into words.\n\n\
     Format: docs/formats.md, \"Problems\".\n\n\
     Example: numarun solve examples/caches.problem | numarun check";
 
@@ -266,7 +270,9 @@ impl Grammar for CommandLine {
         Ok(matches)
     }
 
+    /// A word that is named in it is shown without its control characters.
     fn text(&self, alloc: Global, error: &Error) -> Result<String, AllocError> {
-        error.to_string(alloc)
+        let text = error.to_string(alloc)?;
+        format!(in alloc; "{}", Lines(text.as_str()))
     }
 }

@@ -1,3 +1,4 @@
+//! The program's two streams, and what is said on them.
 ghost use Rattle.std.specs.Prelude.{◌≡◌, [], MatchResult};
 ghost use Rattle.cli.specs.Notes.{note_text};
 ghost use Rattle.program_io.specs.Pages.{Sends, Takes};

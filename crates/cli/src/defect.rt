@@ -1,3 +1,4 @@
+//! Why a machine file is no JSON object of its size.
 ghost use Rattle.std.specs.Prelude.{◌≡◌, Some};
 ghost use Rattle.cli.specs.Defects.{IsDefectOf, defect_line};
 ghost use Rattle.cli.specs.Notes.{note_text};

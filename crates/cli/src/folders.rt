@@ -6,7 +6,7 @@ ghost use Rattle.cli.specs.Configs.{IsConfigIn, IsConfigOf, config_path};
 use crate::opens::Opens;
 use faults::OrMemory;
 use json_text::flaw_in;
-use program_io::Input;
+use program_io::{Input, ReadFault};
 use runtime::Bundles;
 use std::alloc::{AllocError, Global};
 
@@ -54,12 +54,19 @@ impl<F: Opens> Bundles for Folders<'_, F> {
         let path = path_in(self.alloc, bundle)?;
         let file = match self.files.open(path.as_str()) {
             Ok(file) => file,
-            Err(_) => return Ok(None),
+            Err(error) => {
+                self.files
+                    .tell_unread(self.alloc, path.as_str(), ReadFault::from(error));
+                return Ok(None);
+            }
         };
         match file.read_whole(self.alloc) {
             Ok(bytes) => Ok(Some(bytes)),
             Err(OrMemory::Memory) => Err(AllocError),
-            Err(OrMemory::Fault(_)) => Ok(None),
+            Err(OrMemory::Fault(fault)) => {
+                self.files.tell_unread(self.alloc, path.as_str(), fault);
+                Ok(None)
+            }
         }
     }
 

@@ -12,8 +12,13 @@
 //!   `start` says with which bytes each `create`, `adopt` and `update` of a script calls the node. They are those that
 //!   may be read of the file of this name in the BUNDLE that the line names (`Scripts` and `ScriptsMirrored` by
 //!   `IsConfigIn`). Or there is no such file, or none that can be read.
-//! - No clause says what standard error gets of a config that is no JSON. The refusal, and what changes, are as without
-//!   it.
+//! - No clause says what standard error gets of a config that is no JSON or can't be read. The refusal, and what
+//!   changes, are as without it.
+//! - Trees are lent to the program (`GroupTrees`), and each of its arms says what was asked of them when it ends. By
+//!   `check`, `list`, `slit`, `solve`, a `run` without `--cgroup`, the help, a mistake in the words and a machine
+//!   file that is refused that is nothing (`Unasked`). By a root that is refused it is its lock, and what is told of
+//!   it. By a script that was run in a tree it is what its root was opened by, and then what its last kernel's list
+//!   says. So nothing is asked behind the script's last line.
 //! - The laws `check_spellings` and so on are plain spellings of each command, each with what it asks for and without a
 //!   mistake.
 #![tactic(auto)]
@@ -33,6 +38,7 @@ mod opens;
 mod printed;
 mod program;
 mod run;
+mod shown;
 mod solve;
 mod spellings;
 mod unready;

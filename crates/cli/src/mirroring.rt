@@ -1,7 +1,9 @@
 //! `numarun run --cgroup`.
-ghost use Rattle.std.specs.Prelude.{◌≡◌, [], IfOk, MatchResult, option_map, string_bytes};
+ghost use Rattle.std.specs.Prelude.{◌≡◌, List, [], IfOk, MatchResult, option_map, string_bytes};
 ghost use Rattle.machine.specs.Nodes.{nodes_of};
-ghost use Rattle.cgroup_tree.specs.Roots.{AnswersRoot};
+ghost use Rattle.cgroup_tree.specs.Asked.{Asked, Asks, Closes, HandsOut};
+ghost use Rattle.cgroup_tree.specs.Roots.{AnswersRoot, RootTells};
+ghost use Rattle.cgroup_tree.specs.Site.{opening};
 ghost use Rattle.runtime.specs.MirroredNodes.{site_of};
 ghost use Rattle.cli.specs.Program.{ScriptsMirrored, ScriptsMirroredAt};
 ghost use Rattle.cli.specs.Roots.{IsNotRooted, root_note};
@@ -17,7 +19,7 @@ use crate::unrooted::Unrooted;
 use cgroup_tree::{GroupFiles, GroupTrees, MirroredKernel, OpenTree, Sited, open_tree};
 use machine::Machine;
 use node::Node;
-use runtime::{Bundles, Runner, boot_mirrored, run_mirrored};
+use runtime::{Bundles, Runner, boot_mirrored, files_of, run_mirrored};
 use script::ScriptFault;
 use std::alloc::Global;
 use std::io::{Read, Write};
@@ -32,22 +34,15 @@ pub struct Root<'a> {
     pub adopt: bool,
 }
 
-/// Runs a script as [`do_run`](crate::do_run) does, and makes each kernel write below this root too. If one of the files
-/// or the root is refused, it prints why. No number of reads is too many.
-pub fn do_run_mirrored<
-    F: Opens,
-    T: GroupTrees + Drop,
-    B: Bundles + Drop,
-    R: Read,
-    W: Write,
-    E: Write,
->(
+/// Runs a script as [`do_run`](crate::do_run) does, and makes each kernel write below this root too. If one of the
+/// files or the root is refused, it prints why. No number of reads is too many.
+pub fn do_run_mirrored<F: Opens, T: GroupTrees, B: Bundles + Drop, R: Read, W: Write, E: Write>(
     alloc: Global,
     machine: &str,
     table: Option<&str>,
     root: Root<'_>,
     files: &F,
-    trees: T,
+    trees: &mut T,
     bundles: B,
     script: &mut R,
     console: &mut Console<W, E>,
@@ -55,19 +50,20 @@ pub fn do_run_mirrored<
     // It is the same as `do_run` in a cgroup tree, by 2^64 - 1 reads. Or it refuses its root, by what was found of it
     // (`IsNotRooted`), or the node's group can't be made there (`ScriptsMirroredAt`). At the end of a script its node
     // is mirrored (`PlaysMirrored`), as `runtime` says it. Its place is below ROOT, in files opened with `--adopt` or
-    // without, with the nodes that were found to have memory. `start`, which the program calls, says the same. It takes
-    // the one value that gives access to trees and opens its files once: the program is handed one. What the notes of
-    // the system's refusals are on standard error it does not say: they go past its page. Nor does any clause say which
-    // folders of a run before it names to the operator.
+    // without, with the nodes that were found to have memory. All that was asked of trees, when it returns, is what the
+    // root was opened by (`RootTells`), and then what the node's kernel asked for. If the machine is refused nothing
+    // was asked; if the root is, no more than its lock and what is told of it. What the notes of the system's refusals
+    // are on standard error no clause says: they go past its page.
     ensures { ScriptsMirrored W.contents E.contents console.old console.new result (F.opens files.now)
         (F.fails files.now) F.File.gives
-        T.Files.asked (T.finds trees) B.finds (B.told bundles) (R.remaining script.old) (R.remaining script.new)
+        T.Files.asked (T.finds trees.old) T.asked trees.old trees.new B.finds (B.told bundles) (R.remaining script.old)
+        (R.remaining script.new)
         machine.now (option_map (λ name. name.now) table.entry) root.entry.path.now root.entry.adopt }
 {
     match set_up(alloc, machine, table, files) {
         Ok(found) => match open_below(alloc, &found, root, trees) {
-            Ok(tree) => run_mirrored_in::<Brand, T::Files, B, R, W, E>(
-                alloc, found, tree, bundles, script, console,
+            Ok(tree) => run_mirrored_in::<Brand, T, B, R, W, E>(
+                alloc, found, tree, trees, bundles, script, console,
             ),
             Err(why) => print_then_note(&why, REFUSED, &note_of(root.path, why), console),
         },
@@ -76,19 +72,25 @@ pub fn do_run_mirrored<
 }
 
 /// The tree of this root, for this machine.
-fn open_below<T: GroupTrees + Drop>(
+fn open_below<T: GroupTrees>(
     alloc: Global,
     machine: &Machine,
     root: Root<'_>,
-    trees: T,
+    trees: &mut T,
 ) -> Result<OpenTree<T::Files>, Unrooted>
     ensures answers { MatchResult result
-        (λ tree. AnswersRoot (T.finds trees) root.entry.path.now machine.now.online (nodes_of machine.now)
+        (λ tree. AnswersRoot (T.finds trees.old) root.entry.path.now machine.now.online (nodes_of machine.now)
         (Ok tree.memory))
-        (λ why. IsNotRooted (T.finds trees) root.entry.path.now machine.now why) }
+        (λ why. IsNotRooted (T.finds trees.old) root.entry.path.now root.entry.adopt machine.now why
+        (λ calls. Asks T.asked trees.old calls trees.new)) }
     ensures root { IfOk result (λ tree. string_bytes tree.root ≡ root.entry.path.now) }
     ensures adopt { IfOk result (λ tree. tree.adopt ≡ root.entry.adopt) }
-    ensures unasked { IfOk result (λ tree. T.Files.asked tree.files tree.adopt []) }
+    ensures unasked { IfOk result (λ tree. T.Files.asked tree.files
+        (record { adopt = tree.adopt; locked = string_bytes tree.root }) []) }
+    ensures taken { IfOk result (λ tree. (opened : List Asked)
+        × RootTells (T.finds trees.old) root.entry.path.now machine.now.online (nodes_of machine.now) root.entry.adopt
+        (Ok tree.memory) opened
+        × HandsOut T.asked trees.old opened trees.new) }
 {
     let (online, nodes) = (machine.boot_online(), machine.nodes());
     match open_tree(alloc, trees, root.path, &online, &nodes, root.adopt) {
@@ -98,56 +100,69 @@ fn open_below<T: GroupTrees + Drop>(
 }
 
 /// Runs the script that the reader has left over the machine, in this tree, of which nothing was asked yet; or prints
-/// why the group of all containers can't be made there.
-fn run_mirrored_in<S: Sited, F: GroupFiles + Drop, B: Bundles + Drop, R: Read, W: Write, E: Write>(
+/// why the group of all containers can't be made there. The tree's files are taken back.
+fn run_mirrored_in<S: Sited, T: GroupTrees, B: Bundles + Drop, R: Read, W: Write, E: Write>(
     alloc: Global,
     machine: Machine,
-    tree: OpenTree<F>,
+    tree: OpenTree<T::Files>,
+    trees: &mut T,
     bundles: B,
     script: &mut R,
     console: &mut Console<W, E>,
 ) -> u8
     requires site { S.site ≡ site_of machine (string_bytes tree.root) tree.memory tree.adopt }
-    requires unasked { F.asked tree.files tree.adopt [] }
-    ensures { ScriptsMirroredAt W.contents E.contents console.old console.new result F.asked machine
-        (site_of machine (string_bytes tree.root) tree.memory tree.adopt) B.finds (B.told bundles)
+    requires unasked { T.Files.asked tree.files
+        (record { adopt = tree.adopt; locked = string_bytes tree.root }) [] }
+    ensures { ScriptsMirroredAt W.contents E.contents console.old console.new result T.Files.asked machine
+        (site_of machine (string_bytes tree.root) tree.memory tree.adopt)
+        (λ calls. Closes T.asked trees.old calls trees.new) B.finds (B.told bundles)
         (R.remaining script.old) (R.remaining script.new) }
 {
-    match boot_mirrored::<F, S>(alloc, machine, tree) {
+    match boot_mirrored::<T::Files, S>(alloc, machine, tree) {
         Ok(node) => {
-            let end = play_mirrored(node, bundles, script, &mut console.out, u64::MAX);
+            let (end, files) = play_mirrored(node, bundles, script, &mut console.out, u64::MAX);
+            trees.close(files);
             finish(end, console)
         }
-        Err(error) => print_then_note(&Unrooted::from(error), REFUSED, &None, console),
+        Err(not_booted) => {
+            trees.close(not_booted.files);
+            let why = Unrooted::from(not_booted.error);
+            print_then_note(&why, REFUSED, &None, console)
+        }
     }
 }
 
 /// Runs the script that the reader has left over a node whose kernel writes are made in files too, by so many reads at
-/// most, and writes its answers.
+/// most, and writes its answers. It hands the files back.
 fn play_mirrored<F: GroupFiles + Drop, S: Sited, B: Bundles + Drop, R: Read, W: Write>(
     node: Node<MirroredKernel<F, S>>,
     bundles: B,
     script: &mut R,
     w: &mut W,
     most_reads: u64,
-) -> Result<(), ScriptFault>
-    ensures { PlaysMirrored F.asked S.site B.finds most_reads node (B.told bundles) (R.remaining script.old)
-        (R.remaining script.new) (W.contents w.old) (W.contents w.new) result }
+) -> (Result<(), ScriptFault>, F)
+    ensures { PlaysMirrored F.asked S.site (F.asked result.1 (opening S.site)) B.finds most_reads node (B.told bundles)
+        (R.remaining script.old) (R.remaining script.new) (W.contents w.old) (W.contents w.new) result.0 }
 {
     let mut runner = Runner::new(node, bundles);
-    run_mirrored(&mut runner, script, w, most_reads)
+    let end = run_mirrored(&mut runner, script, w, most_reads);
+    (end, files_of(runner))
 }
 
 /// What standard error says of a root that another program has.
 const TAKEN: &str = "another program has it";
 
-/// The note beside a refusal of the root, where it can't be read or another program has it.
+/// What it says of one that other programs can't be kept from.
+const UNLOCKED: &str = "can't be locked";
+
+/// The note beside a refusal of the root, where it can't be read or locked, or another program has it.
 fn note_of(root: &str, why: Unrooted) -> Option<Note<'_>>
     ensures { note_text result ≡ root_note root.now why }
 {
     match why {
         Unrooted::Unread(fault) => Some(Note::new(root, fault.reason())),
         Unrooted::Taken => Some(Note::new(root, TAKEN)),
+        Unrooted::Unlocked => Some(Note::new(root, UNLOCKED)),
         _ => None,
     }
 }

@@ -1,3 +1,4 @@
+//! What standard error says beside an answer.
 ghost use Rattle.std.specs.Prelude.{◌≡◌, Some};
 ghost use Rattle.byte_output.specs.Output.{Writes};
 ghost use Rattle.cli.specs.Notes.{flaw_line, flaw_words, note_of, note_text};

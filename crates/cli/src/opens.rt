@@ -6,7 +6,7 @@ ghost use Rattle.std.specs.declared.io.ErrorKind.{ErrorKind};
 use crate::note::Note;
 use crate::printed::Printed;
 use json_text::Flaw;
-use program_io::{Input, Source};
+use program_io::{Input, ReadFault, Source};
 use std::alloc::Global;
 use std::rt::Files;
 use std::{fs, io, str};
@@ -25,6 +25,9 @@ pub trait Opens {
     fn open(&self, name: &str) -> io::Result<Self::File>
         ensures ok { IfOk result (opens self.now name.now) }
         ensures err { IfErr result (λ error. fails self.now name.now (error_kind error)) };
+
+    /// Tells the operator, if that is possible, why the file of this name can't be read.
+    fn tell_unread(&self, alloc: Global, name: &str, fault: ReadFault);
 
     /// Tells the operator, if that is possible, what keeps the file of this name from being JSON.
     fn tell(&self, alloc: Global, name: &str, flaw: Flaw);
@@ -46,6 +49,18 @@ impl<'a, R> Disk<'a, R> {
     }
 }
 
+impl<R: Files + Eprint> Disk<'_, R> {
+    /// Writes a note on standard error, past the program's page.
+    fn note(&self, alloc: Global, note: Note<'_>) {
+        let mut line = Vec::new(alloc);
+        if Some(note).print(&mut line).is_ok()
+            && let Ok(text) = str::from_utf8(line.as_slice())
+        {
+            let _ = eprint!(self.rt; "{text}");
+        }
+    }
+}
+
 impl<R: Files + Eprint> Opens for Disk<'_, R> {
     type File = R::File;
 
@@ -57,13 +72,12 @@ impl<R: Files + Eprint> Opens for Disk<'_, R> {
         fs::open(self.rt, name)
     }
 
+    fn tell_unread(&self, alloc: Global, name: &str, fault: ReadFault) {
+        self.note(alloc, Note::new(name, fault.reason()));
+    }
+
     fn tell(&self, alloc: Global, name: &str, flaw: Flaw) {
-        let mut line = Vec::new(alloc);
-        if Some(Note::of_flaw(name, flaw)).print(&mut line).is_ok()
-            && let Ok(text) = str::from_utf8(line.as_slice())
-        {
-            let _ = eprint!(self.rt; "{text}");
-        }
+        self.note(alloc, Note::of_flaw(name, flaw));
     }
 }
 

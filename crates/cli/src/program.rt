@@ -1,5 +1,6 @@
 //! The program: words, files and streams in, answers and an exit status out.
-ghost use Rattle.std.specs.Prelude.{map, option_map, string_bytes};
+ghost use Rattle.std.specs.Prelude.{[], map, option_map, string_bytes};
+ghost use Rattle.cgroup_tree.specs.Asked.{Asks};
 ghost use Rattle.clap.specs.Words.{kind_of};
 ghost use Rattle.cli.specs.Asked.{asked, run, word_bytes};
 ghost use Rattle.cli.specs.Configs.{IsConfigIn};
@@ -24,22 +25,24 @@ use std::io::{Read, Write};
 
 /// Does what the words of the command line ask for, over these files and standard streams, and tells the exit status.
 /// It is 0; or 1 if an input is refused, an allocation fails or the answer can't be written. It is 2 if the words are
-/// no command line. It is 2 too if an allocation fails while they are parsed or the help or a mistake is put into words.
-pub fn run_program<G: Grammar, F: Opens, T: GroupTrees + Drop, R: Read + Input, W: Write, E: Write>(
+/// no command line. It is 2 too if an allocation fails while they are parsed or the help or a mistake is put into
+/// words.
+pub fn run_program<G: Grammar, F: Opens, T: GroupTrees, R: Read + Input, W: Write, E: Write>(
     alloc: Global,
     grammar: &G,
     words: &[String],
     files: &F,
-    trees: T,
+    trees: &mut T,
     input: R,
     console: &mut Console<W, E>,
 ) -> u8
     // It does what the words ask for, over any grammar, any files, any reader and any two writers. The contract says
     // which bytes go to which stream, and the exit status of each case.
     ensures { Runs W.contents E.contents console.old console.new result (G.fails grammar.now) (G.lacks grammar.now)
+        (Asks T.asked trees.old [] trees.new)
         (Does W.contents E.contents console.old console.new result (F.opens files.now) (F.fails files.now) F.File.gives
-        T.Files.asked (T.finds trees) (IsConfigIn F.opens F.fails F.File.gives) (R.Input.gives input)
-        (R.Read.remaining input)) (map string_bytes words.now) }
+        T.Files.asked (T.finds trees.old) T.asked trees.old trees.new (IsConfigIn F.opens F.fails F.File.gives)
+        (R.Input.gives input) (R.Read.remaining input)) (map string_bytes words.now) }
 {
     match parse(alloc, grammar, words) {
         Ok(asked) => dispatch(alloc, asked, files, trees, input, console),
@@ -48,18 +51,18 @@ pub fn run_program<G: Grammar, F: Opens, T: GroupTrees + Drop, R: Read + Input, 
     }
 }
 
-fn dispatch<F: Opens, T: GroupTrees + Drop, R: Read + Input, W: Write, E: Write>(
+fn dispatch<F: Opens, T: GroupTrees, R: Read + Input, W: Write, E: Write>(
     alloc: Global,
     words: Words<'_>,
     files: &F,
-    trees: T,
+    trees: &mut T,
     input: R,
     console: &mut Console<W, E>,
 ) -> u8
     ensures { Does W.contents E.contents console.old console.new result (F.opens files.now) (F.fails files.now)
         F.File.gives
-        T.Files.asked (T.finds trees) (IsConfigIn F.opens F.fails F.File.gives) (R.Input.gives input)
-        (R.Read.remaining input) (asked words.entry) }
+        T.Files.asked (T.finds trees.old) T.asked trees.old trees.new (IsConfigIn F.opens F.fails F.File.gives)
+        (R.Input.gives input) (R.Read.remaining input) (asked words.entry) }
 {
     match words {
         Words::Check { file } => check_named(alloc, file.unwrap_or("-"), files, input, console),
@@ -78,21 +81,21 @@ fn dispatch<F: Opens, T: GroupTrees + Drop, R: Read + Input, W: Write, E: Write>
 }
 
 /// Runs the script on standard input over a machine, in the cgroup tree below a root if one is named.
-fn run_in<F: Opens, T: GroupTrees + Drop, R: Read + Input, W: Write, E: Write>(
+fn run_in<F: Opens, T: GroupTrees, R: Read + Input, W: Write, E: Write>(
     alloc: Global,
     machine: &str,
     table: Option<&str>,
     root: Option<&str>,
     adopt: bool,
     files: &F,
-    trees: T,
+    trees: &mut T,
     input: R,
     console: &mut Console<W, E>,
 ) -> u8
     ensures { Does W.contents E.contents console.old console.new result (F.opens files.now) (F.fails files.now)
         F.File.gives
-        T.Files.asked (T.finds trees) (IsConfigIn F.opens F.fails F.File.gives) (R.Input.gives input)
-        (R.Read.remaining input)
+        T.Files.asked (T.finds trees.old) T.asked trees.old trees.new (IsConfigIn F.opens F.fails F.File.gives)
+        (R.Input.gives input) (R.Read.remaining input)
         (run machine.now (option_map word_bytes table.entry) (option_map word_bytes root.entry) adopt) }
 {
     let mut script = input;

@@ -26,8 +26,8 @@ pub fn run_spellings()
     ensures { RunSpellings }
 {}
 
-/// `solve` asks for the solution of the problem on standard input. `solve FILE` asks for that of the file's, if its name
-/// doesn't begin with a hyphen or has `--` before it.
+/// `solve` asks for the solution of the problem on standard input. `solve FILE` asks for that of the file's, if its
+/// name doesn't begin with a hyphen or has `--` before it.
 pub fn solve_spellings()
     ensures { SolveSpellings }
 {}

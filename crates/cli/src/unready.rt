@@ -1,3 +1,4 @@
+//! Why a script has no machine to run over.
 use crate::defect::Defect;
 use machine::MachineFault;
 use program_io::Refusal;

@@ -1,3 +1,4 @@
+//! Why a script has no tree to run in.
 use crate::printed::Printed;
 use byte_output::put;
 use cgroup_tree::RootFault;
@@ -20,6 +21,8 @@ pub enum Unrooted {
     OtherMachine,
     /// E50: another program has the root.
     Taken,
+    /// E50: the root can't be locked, so other programs can't be kept from it.
+    Unlocked,
     /// E50: the group of all containers can't be made.
     Kernel,
 }
@@ -33,6 +36,7 @@ impl From<RootFault> for Unrooted {
         match fault {
             RootFault::Memory => Unrooted::Memory,
             RootFault::Taken => Unrooted::Taken,
+            RootFault::Unlocked(_) => Unrooted::Unlocked,
             RootFault::Unread(kind) => Unrooted::Unread(ReadFault::told(kind)),
             RootFault::NoCpuset => Unrooted::NoCpuset,
             RootFault::OtherMachine => Unrooted::OtherMachine,
@@ -65,7 +69,9 @@ impl Printed for Unrooted {
             Unrooted::Memory => Refusal::Memory.write(w),
             Unrooted::NoCpuset => put(b"refused E115 NoCpuset\n", w),
             Unrooted::OtherMachine => put(b"refused E116 OtherMachine\n", w),
-            Unrooted::Taken | Unrooted::Kernel => put(b"refused E50 KernelFault\n", w),
+            Unrooted::Taken | Unrooted::Unlocked | Unrooted::Kernel => {
+                put(b"refused E50 KernelFault\n", w)
+            }
         }
     }
 }

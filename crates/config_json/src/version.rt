@@ -1,3 +1,4 @@
+//! The member `ociVersion`: a version whose major number is 1.
 ghost use Rattle.std.specs.Prelude.{◌≡◌, false, IfOk, IsErr, IsErrOf};
 ghost use Rattle.serde_json.specs.View.{view};
 ghost use Rattle.semver.specs.Parse.{version_parts};

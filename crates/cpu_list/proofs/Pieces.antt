@@ -7,7 +7,7 @@ use Rattle.std.proofs.lemmas.List.Folds.{length-prefix_len}
 use Rattle.std.proofs.lemmas.List.Splits.{slice_split_first, slice_split_none}
 use Rattle.std.proofs.lemmas.List.Sums.{fails_before_first, prefix_len-le-length}
 use Rattle.cpu_list.specs.ListText.{is_comma, pieces, item_of, range_of, range_names, piece_names}
-use Rattle.cpu_list.specs.ItemFaults.{range_of-nil}
+use Rattle.cpu_list.specs.ItemFaultLaws.{range_of-nil}
 use Rattle.std.proofs.Math.Bool.{or-false}
 
 -- the pieces of a text from a place on; none past its end

@@ -13,7 +13,7 @@ use Rattle.std.proofs.Math.Seq.{take-append-add}
 use Rattle.cpu_list.specs.ListText.{is_comma, is_hyphen, is_blank, item_of, number_of, range_round, range_of, range_names, piece_names}
 use Rattle.cpu_list.specs.FirstFault.{item_fault, range_fault}
 use Rattle.cpu_list.specs.Plain.{IsFront, IsPlain}
-use Rattle.byte_output.specs.Digits.{IsCapped, capped_more}
+use Rattle.byte_output.specs.DigitsLemmas.{IsCapped, capped_more}
 use Rattle.cpu_list.proofs.RangeReads.{position-none, position-between, two_numbers, item_of-whole}
 use Rattle.cpu_list.proofs.TextBytes.{all_pass_weaker, none_pass, digit-is_hyphen, is_range_byte, range_byte-is_blank, range_byte-is_comma}
 

@@ -6,7 +6,7 @@ use Rattle.cpu_list.specs.declared.fault.ListErrorKind.{ListErrorKind}
 use Rattle.cpu_list.specs.ListText.{is_comma, leading_blanks, item_of, names, piece_names, IsList}
 use Rattle.cpu_list.specs.FirstFault.{item_fault, faults_from, first_fault}
 use Rattle.faults.specs.First.{first_of}
-use Rattle.cpu_list.specs.FirstFaults.{none_where_list}
+use Rattle.cpu_list.specs.FirstFaultLaws.{none_where_list}
 use Rattle.cpu_list.proofs.Pieces.{pieces_from, pieces_none, pieces_more, pieces_all, first_fits}
 use Rattle.std.proofs.Math.Bool.{or-false}
 

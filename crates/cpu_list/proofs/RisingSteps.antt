@@ -9,7 +9,8 @@ use Rattle.cpu_set.specs.Ids.{Ids}
 use Rattle.cpu_set.specs.Members.{members}
 use Rattle.cpu_set.specs.Ranges.{AreRuns, ranges_of, in_ranges}
 use Rattle.cpu_set.specs.RangeLaws.{AreRuns-ranges_among, in_ranges-among, members_ranges, ranges_among, ranges_from-is}
-use Rattle.cpu_set.specs.Those.{those, contains-those}
+use Rattle.cpu_set.specs.Those.{those}
+use Rattle.cpu_set.specs.ThoseLemmas.{contains-those}
 use Rattle.cpu_set.specs.declared.TheConstants.{CPU_LIMIT}
 use Rattle.cpu_list.specs.ListText.{is_comma}
 use Rattle.cpu_list.specs.Plain.{IsPlain}

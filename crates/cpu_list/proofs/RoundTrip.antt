@@ -3,7 +3,7 @@ use Rattle.std.proofs.Common.{◌≡◌, ℕ, ◌+◌, ◌^◌, ◌<◌, ◌≤�
 use Rattle.std.specs.List.{All, AllByRecursion, list_any}
 use Rattle.std.proofs.lemmas.Bool.{and_from, or_left, or_right, le-leb}
 use Rattle.std.proofs.lemmas.List.Splits.{slice_split_none, slice_split_at}
-use Rattle.cpu_set.specs.Pointwise.{same_members}
+use Rattle.cpu_set.specs.PointwiseLaws.{same_members}
 use Rattle.cpu_list.specs.ListText.{is_comma, pieces, item_of, IsItem, IsList, range_names, piece_names, names, IsSetOf}
 use Rattle.cpu_set.specs.Ranges.{AreRuns, in_ranges}
 use Rattle.cpu_list.specs.CanonicalList.{range_text, ranges_text}

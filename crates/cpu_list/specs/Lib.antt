@@ -2,8 +2,8 @@ pub mod CanonicalLaws
 pub mod CanonicalList
 pub mod FaultTitle
 pub mod FirstFault
-pub mod FirstFaults
-pub mod ItemFaults
+pub mod FirstFaultLaws
+pub mod ItemFaultLaws
 pub mod ListText
 pub mod Plain
 pub mod RisingList

@@ -16,9 +16,9 @@ fn read_above(text: &[u8], limit: u16, least: u16) -> Option<(u16, u16, usize)>
     if item.0 < least { None } else { Some(item) }
 }
 
-/// Reads a list whose items are numbers or ranges without blanks, each of which begins above the number that follows the
-/// one before it: the ranges of its set, in place of what `ranges` had. Of any other text it answers no, a faulty one too,
-/// and [`read`](crate::read) decides. O(n) of n bytes.
+/// Reads a list whose items are numbers or ranges without blanks, each of which begins above the number that follows
+/// the one before it: the ranges of its set, in place of what `ranges` had. Of any other text it answers no, a faulty
+/// one too, and [`read`](crate::read) decides. O(n) of n bytes.
 ///
 /// # Errors
 /// An allocation failure.
@@ -28,8 +28,8 @@ pub fn read_rising(
     ranges: &mut Vec<(u16, u16)>,
 ) -> Result<bool, AllocError>
     requires { limit ≤ CPU_LIMIT }
-    // If it says yes, the text is a list without a fault, and these are the ranges of the set that it names, rising and as
-    // long as possible. Which lists it says no to, no clause says.
+    // If it says yes, the text is a list without a fault, and these are the ranges of the set that it names, rising and
+    // as long as possible (`IsRisingList`). Which lists it says no to, no clause says: of those `read` decides.
     ensures { IfOk result (λ is. is ≡ true → IsRisingList limit text.now ranges.new.items) }
 {
     ranges.clear();

@@ -12,7 +12,7 @@ use Rattle.std.specs.Simd.Lanes.{zip2, fold_l}
 use Rattle.std.specs.FinSet as finset
 use Rattle.cpu_set.specs.Ids.{Ids}
 use Rattle.cpu_set.specs.Members.{IsComplement}
-use Rattle.cpu_set.specs.Pointwise.{same_members, contains-empty, contains-insert, contains-remove, contains-union, contains-difference}
+use Rattle.cpu_set.specs.PointwiseLaws.{same_members, contains-empty, contains-insert, contains-remove, contains-union, contains-difference}
 use Rattle.cpu_set.specs.Words.{has_bit, set_of_words, AreWords}
 use Rattle.cpu_set.specs.WordLaws.{contains-set_of_words, has_bit-past, has_bit-at}
 use Rattle.cpu_set.specs.declared.TheConstants.{CPU_LIMIT}

@@ -13,7 +13,8 @@ use Rattle.std.proofs.Math.Nat.{suc-mul}
 use Rattle.std.proofs.Math.Numerals.{add-one}
 use Rattle.std.specs.FinSet as finset
 use Rattle.cpu_set.specs.Members.{InRange, members}
-use Rattle.cpu_set.specs.Those.{those, contains-those}
+use Rattle.cpu_set.specs.Those.{those}
+use Rattle.cpu_set.specs.ThoseLemmas.{contains-those}
 use Rattle.cpu_set.specs.SetLaws.{len-those_none, len-those_more, length-members}
 use Rattle.cpu_set.specs.Words.{has_bit, set_of_words, AreWords, word_of}
 use Rattle.cpu_set.specs.WordLaws.{has_bit-at, word_of-bits}

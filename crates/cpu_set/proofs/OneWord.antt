@@ -9,7 +9,7 @@ use Rattle.std.proofs.lemmas.Bool.Decides.{nat_tests}
 use Rattle.std.proofs.lemmas.List.{get_or-replicate, length-replicate}
 use Rattle.std.proofs.lemmas.Nat.Bits.{bit_at-zero}
 use Rattle.cpu_set.specs.Ids.{NoneFrom, IsFirstFrom}
-use Rattle.cpu_set.specs.Pointwise.{same_members, contains-remove}
+use Rattle.cpu_set.specs.PointwiseLaws.{same_members, contains-remove}
 use Rattle.cpu_set.specs.Word.{NoBitFrom, IsFirstBit}
 use Rattle.cpu_set.specs.Words.{AreWords}
 use Rattle.cpu_set.specs.WordSets.{set_of_word, IsWordSet}

@@ -6,7 +6,7 @@ use Rattle.std.specs.FinSet as set
 use Rattle.std.proofs.lemmas.Bool.{cases_eq}
 use Rattle.cpu_set.specs.Ids.{Ids, NoneFrom, IsFirstFrom}
 use Rattle.cpu_set.specs.Members.{IsCpu, cpus}
-use Rattle.cpu_set.specs.Pointwise.{contains-intersection, contains-difference}
+use Rattle.cpu_set.specs.PointwiseLaws.{contains-intersection, contains-difference}
 use Rattle.cpu_set.specs.Least.{least_that}
 use Rattle.cpu_set.specs.declared.TheConstants.{CPU_LIMIT}
 

@@ -1,7 +1,8 @@
 pub mod Ids
 pub mod Members
-pub mod Pointwise
+pub mod PointwiseLaws
 pub mod Those
+pub mod ThoseLemmas
 pub mod SetLaws
 pub mod Least
 pub mod LeastLaws
@@ -12,5 +13,5 @@ pub mod WordSets
 pub mod Ranges
 pub mod RangesFrom
 pub mod RangeLaws
-pub mod SetRanges
-pub mod ListedSets
+pub mod SetRangeLaws
+pub mod ListedSetLemmas

@@ -14,9 +14,10 @@ use Rattle.std.specs.FinSet as set
 use Rattle.std.specs.Ordering.{nat_cmp}
 use Rattle.cpu_set.specs.Ids.{Ids, IsDisjoint, NoneFrom, is_empty}
 use Rattle.cpu_set.specs.Members.{InRange, cpus, members}
-use Rattle.cpu_set.specs.Those.{those, contains-those}
-use Rattle.cpu_set.specs.Pointwise.{same_members, contains-empty, contains-intersection, contains-difference, is_subset-contains, contains-is_subset}
-use Rattle.faults.specs.Tests.{never_both, without, none_left}
+use Rattle.cpu_set.specs.Those.{those}
+use Rattle.cpu_set.specs.ThoseLemmas.{contains-those}
+use Rattle.cpu_set.specs.PointwiseLaws.{same_members, contains-empty, contains-intersection, contains-difference, is_subset-contains, contains-is_subset}
+use Rattle.faults.specs.TestLaws.{never_both, without, none_left}
 
 -- a set is empty exactly if it has no member
 abbrev pub EmptyWhereNone : Type 0

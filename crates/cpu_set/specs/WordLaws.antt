@@ -8,7 +8,7 @@ use Rattle.std.proofs.lemmas.Simd.{mask_l-lt, bit_mask_l}
 use Rattle.std.specs.Int.{bit_at}
 use Rattle.std.specs.List.{range_with_len}
 use Rattle.std.specs.FinSet as set
-use Rattle.cpu_set.specs.Those.{contains-those}
+use Rattle.cpu_set.specs.ThoseLemmas.{contains-those}
 use Rattle.cpu_set.specs.Words.{has_bit, set_of_words, AreWords, word_of, words_below, words_of_set}
 use Rattle.cpu_set.specs.declared.TheConstants.{CPU_LIMIT}
 use Rattle.cpu_set.specs.declared.id_set.TheConstants.{WORDS}

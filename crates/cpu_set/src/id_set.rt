@@ -274,7 +274,7 @@ impl fmt::Debug for IdSet {
 impl PartialEq for IdSet {
     ghost use Rattle.std.specs.Cmp.{partial_equiv_from_equiv, decided};
     ghost use Rattle.cpu_set.specs.Ids.{is_same};
-    ghost use Rattle.cpu_set.specs.Pointwise.{is_same_decides};
+    ghost use Rattle.cpu_set.specs.PointwiseLaws.{is_same_decides};
 
     ghost eq = { is_same };
 
@@ -288,7 +288,7 @@ impl PartialEq for IdSet {
 impl Eq for IdSet {
     ghost use Rattle.std.specs.Cmp.{decided};
     ghost use Rattle.cpu_set.specs.Ids.{is_same};
-    ghost use Rattle.cpu_set.specs.Pointwise.{is_same_decides};
+    ghost use Rattle.cpu_set.specs.PointwiseLaws.{is_same_decides};
 
     ghost laws = { decided is_same is_same_decides };
 }

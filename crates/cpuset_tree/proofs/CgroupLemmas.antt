@@ -10,18 +10,18 @@ use Rattle.cpuset_tree.specs.declared.groups.Cgroup.{Cgroup}
 use Rattle.cpuset_tree.specs.declared.groups.Resource.TheVariants.{Cpus, Mems}
 use Rattle.cpuset_tree.specs.TreeState.{TreeState}
 use Rattle.cpuset_tree.specs.Groups.{same_group, entry_among, is_root_entry}
-use Rattle.cpuset_tree.specs.Kept.{listed, IsSound, IsKeptOf, entry_of_kept, effective_kept}
+use Rattle.cpuset_tree.specs.Kept.{entries_kept, IsSound, IsKeptOf, entry_of_kept, effective_kept}
 use Rattle.cpuset_tree.proofs.KeptLemmas.{kept-effective}
 use Rattle.cpuset_tree.proofs.ChangeLemmas.{found, not_found}
 
 module _ (s : Slab Cgroup) (keys : List ℕ) (online nodes : Ids) (root : Group) (next : ℕ) (g : Group) where
   abbrev state : TreeState
-  state = record { groups = listed s keys; online = online; nodes = nodes; next_serial = next }
+  state = record { groups = entries_kept s keys; online = online; nodes = nodes; next_serial = next }
 
   pub kept_of : (n : Cgroup) → IsSound s keys online nodes root next → get s g.key ≡ Some n → same_group n.group g ≡ true → IsKeptOf state g (Some n)
   kept_of n sound at same =
-      let is : entry_among (listed s keys) g ≡ Some (entry_of_kept n) = found s next keys sound.in_order g n at same (sound.complete g.key (ap is_some at)) in
-      let there : is_some (entry_among (listed s keys) g) ≡ true = ap is_some is in (
+      let is : entry_among (entries_kept s keys) g ≡ Some (entry_of_kept n) = found s next keys sound.in_order g n at same (sound.complete g.key (ap is_some at)) in
+      let there : is_some (entry_among (entries_kept s keys) g) ≡ true = ap is_some is in (
         is,
         ap (effective_kept Cpus) (sym at) ∙ kept-effective Cpus s online next keys sound.in_order (sound.all_kept Cpus) g there,
         ap (effective_kept Mems) (sym at) ∙ kept-effective Mems s nodes next keys sound.in_order (sound.all_kept Mems) g there,
@@ -35,10 +35,10 @@ pub record KeptThere (s : Slab Cgroup) (keys : List ℕ) (g : Group) : Type 0 wh
   pub kept : Cgroup
   pub at : get s g.key ≡ Some kept
   pub same : same_group kept.group g ≡ true
-  pub root : is_none kept.parent ≡ is_root_entry (entry_among (listed s keys) g)
+  pub root : is_none kept.parent ≡ is_root_entry (entry_among (entries_kept s keys) g)
 
 pub kept_there : (s : Slab Cgroup) (keys : List ℕ) (online nodes : Ids) (root : Group) (next : ℕ) (g : Group) → IsSound s keys online nodes root next
-    → is_some (entry_among (listed s keys) g) ≡ true → KeptThere s keys g
+    → is_some (entry_among (entries_kept s keys) g) ≡ true → KeptThere s keys g
 kept_there s keys online nodes root next g sound there = at_key (get s g.key) refl
   where
     at_key : (o : Option Cgroup) → get s g.key ≡ o → KeptThere s keys g

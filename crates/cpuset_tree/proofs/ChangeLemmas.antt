@@ -11,7 +11,7 @@ use Rattle.cpuset_tree.specs.declared.groups.Cgroup.{Cgroup}
 use Rattle.cpuset_tree.specs.declared.groups.Resource.{Resource}
 use Rattle.cpuset_tree.specs.TreeState.{GroupEntry}
 use Rattle.cpuset_tree.specs.Groups.{same_group, is_parent, has_child_among, entry_among, root_among}
-use Rattle.cpuset_tree.specs.Kept.{entry_of_kept, listed, HasParentAmong, IsInOrder, share_of, requested_of, KeepsEffective, AllKept, ChangesAt}
+use Rattle.cpuset_tree.specs.Kept.{entry_of_kept, entries_kept, HasParentAmong, IsInOrder, share_of, requested_of, KeepsEffective, AllKept, ChangesAt}
 use Rattle.cpuset_tree.specs.GroupLemmas.{same_group-key, same_group_sym, other_key, entry_among-here, entry_among-there, entry_among-without, effective-without, standing_alike}
 use Rattle.cpuset_tree.proofs.KeptLemmas.{listed_at, listed-others}
 
@@ -25,21 +25,21 @@ module _ (old new : Slab Cgroup) (g : Group) (f : Cgroup → Cgroup) (r : GroupE
     (here : (m : Cgroup) → same_group m.group g ≡ true → entry_of_kept (f m) ≡ r (entry_of_kept m))
     (there : (m : Cgroup) → same_group m.group g ≡ false → entry_of_kept m ≡ r (entry_of_kept m)) where
   pub listed-written : (next : ℕ) (keys : List ℕ) → IsInOrder old next keys → ChangesAt old new g.key f
-      → (n : Cgroup) → get old g.key ≡ Some n → same_group n.group g ≡ true → listed new keys ≡ map r (listed old keys)
+      → (n : Cgroup) → get old g.key ≡ Some n → same_group n.group g ≡ true → entries_kept new keys ≡ map r (entries_kept old keys)
   listed-written next [] _ change n at same = refl
   listed-written next (k ∷ older) (m, at_k, knows, below, parent, rest) change n at same =
-      elim (k == g.key) as (λ t. (k == g.key) ≡ t → listed new (k ∷ older) ≡ map r (listed old (k ∷ older))) [
+      elim (k == g.key) as (λ t. (k == g.key) ≡ t → entries_kept new (k ∷ older) ≡ map r (entries_kept old (k ∷ older))) [
         | true ↦ λ e.
             let key : k ≡ g.key = eqb-true k g.key e in
             let one : m ≡ n = same_Some m n (sym at_k ∙ ap (get old) key ∙ at) in
             listed_at new k older (f m) (ap (get new) key ∙ change.changed ∙ ap (option_map f) (ap (get old) (sym key) ∙ at_k))
-            ∙ ap (λ (e : GroupEntry). e ∷ listed new older) (here m (ap (λ (x : Cgroup). same_group x.group g) one ∙ same))
+            ∙ ap (λ (e : GroupEntry). e ∷ entries_kept new older) (here m (ap (λ (x : Cgroup). same_group x.group g) one ∙ same))
             ∙ ap (λ (l : List GroupEntry). r (entry_of_kept m) ∷ l) (listed-written m.group.serial older rest change n at same)
             ∙ sym (ap (map r) (listed_at old k older m at_k))
         | false ↦ λ e.
             let ne : k ≢ g.key = λ is. both_ways (k == g.key) e (eq-eqb k g.key is) in
             listed_at new k older m (change.others k ne ∙ at_k)
-            ∙ ap (λ (e : GroupEntry). e ∷ listed new older) (there m (other_key m.group g (λ is. ne (sym knows ∙ is))))
+            ∙ ap (λ (e : GroupEntry). e ∷ entries_kept new older) (there m (other_key m.group g (λ is. ne (sym knows ∙ is))))
             ∙ ap (λ (l : List GroupEntry). r (entry_of_kept m) ∷ l) (listed-written m.group.serial older rest change n at same)
             ∙ sym (ap (map r) (listed_at old k older m at_k))
       ] refl
@@ -64,29 +64,29 @@ IsInOrder-others old new key others next (k ∷ older) none (m, at, knows, below
 
 -- the group of a handle is found
 pub found : (s : Slab Cgroup) (next : ℕ) (keys : List ℕ) → IsInOrder s next keys → (g : Group) (n : Cgroup) → get s g.key ≡ Some n → same_group n.group g ≡ true
-    → list_any (λ k. k == g.key) keys ≡ true → entry_among (listed s keys) g ≡ Some (entry_of_kept n)
+    → list_any (λ k. k == g.key) keys ≡ true → entry_among (entries_kept s keys) g ≡ Some (entry_of_kept n)
 found s next [] _ g n at same there = absurd (both_ways false refl there)
 found s next (k ∷ older) (m, at_k, knows, below, parent, rest) g n at same there =
     ap (λ (l : List GroupEntry). entry_among l g) (listed_at s k older m at_k)
-    ∙ elim (k == g.key) as (λ t. (k == g.key) ≡ t → entry_among (entry_of_kept m ∷ listed s older) g ≡ Some (entry_of_kept n)) [
+    ∙ elim (k == g.key) as (λ t. (k == g.key) ≡ t → entry_among (entry_of_kept m ∷ entries_kept s older) g ≡ Some (entry_of_kept n)) [
       | true ↦ λ e.
           let one : m ≡ n = same_Some m n (sym at_k ∙ ap (get s) (eqb-true k g.key e) ∙ at) in
-          entry_among-here (entry_of_kept m) (listed s older) g (ap (λ (x : Cgroup). same_group x.group g) one ∙ same)
+          entry_among-here (entry_of_kept m) (entries_kept s older) g (ap (λ (x : Cgroup). same_group x.group g) one ∙ same)
           ∙ ap (λ (x : Cgroup). Some (entry_of_kept x)) one
       | false ↦ λ e.
-          entry_among-there (entry_of_kept m) (listed s older) g (other_key m.group g (λ is. both_ways (k == g.key) e (eq-eqb k g.key (sym knows ∙ is))))
+          entry_among-there (entry_of_kept m) (entries_kept s older) g (other_key m.group g (λ is. both_ways (k == g.key) e (eq-eqb k g.key (sym knows ∙ is))))
           ∙ found s m.group.serial older rest g n at same (ap (λ b. b || list_any (λ k. k == g.key) older) (sym e) ∙ there)
     ] refl
 
 -- a handle whose key has no group, or another one, is of no group
 pub not_found : (s : Slab Cgroup) (next : ℕ) (keys : List ℕ) → IsInOrder s next keys → (g : Group)
-    → ((n : Cgroup) → get s g.key ≡ Some n → same_group n.group g ≡ false) → entry_among (listed s keys) g ≡ None
+    → ((n : Cgroup) → get s g.key ≡ Some n → same_group n.group g ≡ false) → entry_among (entries_kept s keys) g ≡ None
 not_found s next [] _ g other = refl
 not_found s next (k ∷ older) (m, at, knows, below, parent, rest) g other =
     ap (λ (l : List GroupEntry). entry_among l g) (listed_at s k older m at)
-    ∙ elim (same_group m.group g) as (λ t. same_group m.group g ≡ t → entry_among (entry_of_kept m ∷ listed s older) g ≡ None) [
+    ∙ elim (same_group m.group g) as (λ t. same_group m.group g ≡ t → entry_among (entry_of_kept m ∷ entries_kept s older) g ≡ None) [
       | true ↦ λ e. absurd (both_ways (same_group m.group g) (other m (ap (get s) (sym (sym knows ∙ same_group-key m.group g e)) ∙ at)) e)
-      | false ↦ λ e. entry_among-there (entry_of_kept m) (listed s older) g e ∙ not_found s m.group.serial older rest g other
+      | false ↦ λ e. entry_among-there (entry_of_kept m) (entries_kept s older) g e ∙ not_found s m.group.serial older rest g other
     ] refl
 
 -- one group is removed, which has no children and is not the root
@@ -120,36 +120,36 @@ module _ (old new : Slab Cgroup) (g : Group) (n : Cgroup) (at_g : get old g.key 
   keeps_group : (e : GroupEntry) (older : List GroupEntry) → same_group e.group g ≡ false → kept_groups (e ∷ older) ≡ e ∷ kept_groups older
   keeps_group e older is = cond-true (not (same_group e.group g)) (e ∷ kept_groups older) (kept_groups older) (ap not is)
 
-  pub listed-removed : (next : ℕ) (keys : List ℕ) → IsInOrder old next keys → listed new (kept_keys keys) ≡ kept_groups (listed old keys)
+  pub listed-removed : (next : ℕ) (keys : List ℕ) → IsInOrder old next keys → entries_kept new (kept_keys keys) ≡ kept_groups (entries_kept old keys)
   listed-removed next [] _ = refl
   listed-removed next (k ∷ older) (m, at, knows, below, parent, rest) =
-      elim (k == g.key) as (λ t. (k == g.key) ≡ t → listed new (kept_keys (k ∷ older)) ≡ kept_groups (listed old (k ∷ older))) [
+      elim (k == g.key) as (λ t. (k == g.key) ≡ t → entries_kept new (kept_keys (k ∷ older)) ≡ kept_groups (entries_kept old (k ∷ older))) [
         | true ↦ λ e.
-            ap (listed new) (drops_key k older e) ∙ listed-removed m.group.serial older rest
-            ∙ sym (ap kept_groups (listed_at old k older m at) ∙ drops_group (entry_of_kept m) (listed old older) (is_it k m at e))
+            ap (entries_kept new) (drops_key k older e) ∙ listed-removed m.group.serial older rest
+            ∙ sym (ap kept_groups (listed_at old k older m at) ∙ drops_group (entry_of_kept m) (entries_kept old older) (is_it k m at e))
         | false ↦ λ e.
-            ap (listed new) (keeps_key k older e) ∙ listed_at new k (kept_keys older) m (kept_at k e ∙ at)
+            ap (entries_kept new) (keeps_key k older e) ∙ listed_at new k (kept_keys older) m (kept_at k e ∙ at)
             ∙ ap (λ (l : List GroupEntry). entry_of_kept m ∷ l) (listed-removed m.group.serial older rest)
-            ∙ sym (ap kept_groups (listed_at old k older m at) ∙ keeps_group (entry_of_kept m) (listed old older) (is_other k m knows e))
+            ∙ sym (ap kept_groups (listed_at old k older m at) ∙ keeps_group (entry_of_kept m) (entries_kept old older) (is_other k m knows e))
       ] refl
 
   -- nobody's parent was removed
-  parts_of : (k : ℕ) (older : List ℕ) (m : Cgroup) → get old k ≡ Some m → has_child_among (listed old (k ∷ older)) g ≡ false
-      → (is_parent m.parent g ≡ false) × (has_child_among (listed old older) g ≡ false)
+  parts_of : (k : ℕ) (older : List ℕ) (m : Cgroup) → get old k ≡ Some m → has_child_among (entries_kept old (k ∷ older)) g ≡ false
+      → (is_parent m.parent g ≡ false) × (has_child_among (entries_kept old older) g ≡ false)
   parts_of k older m at none =
-      or_parts (is_parent m.parent g) (has_child_among (listed old older) g) (sym (ap (λ (l : List GroupEntry). has_child_among l g) (listed_at old k older m at)) ∙ none)
+      or_parts (is_parent m.parent g) (has_child_among (entries_kept old older) g) (sym (ap (λ (l : List GroupEntry). has_child_among l g) (listed_at old k older m at)) ∙ none)
 
   parent-removed : (parent : Option Group) (next : ℕ) (older : List ℕ) → IsInOrder old next older → is_parent parent g ≡ false → HasParentAmong old parent older
       → HasParentAmong new parent (kept_keys older)
   parent-removed None next older rest none h = ap kept_keys h
   parent-removed (Some p) next older rest none h =
       ap (λ (l : List GroupEntry). is_some (entry_among l p)) (listed-removed next older rest)
-      ∙ ap is_some (entry_among-without g (listed old older) p (same_group_sym g p ∙ none)) ∙ h
+      ∙ ap is_some (entry_among-without g (entries_kept old older) p (same_group_sym g p ∙ none)) ∙ h
 
-  pub IsInOrder-removed : (next : ℕ) (keys : List ℕ) → IsInOrder old next keys → has_child_among (listed old keys) g ≡ false → IsInOrder new next (kept_keys keys)
+  pub IsInOrder-removed : (next : ℕ) (keys : List ℕ) → IsInOrder old next keys → has_child_among (entries_kept old keys) g ≡ false → IsInOrder new next (kept_keys keys)
   IsInOrder-removed next [] _ none = tt
   IsInOrder-removed next (k ∷ older) (m, at, knows, below, parent, rest) none =
-      let parts : (is_parent m.parent g ≡ false) × (has_child_among (listed old older) g ≡ false) = parts_of k older m at none in
+      let parts : (is_parent m.parent g ≡ false) × (has_child_among (entries_kept old older) g ≡ false) = parts_of k older m at none in
       elim (k == g.key) as (λ t. (k == g.key) ≡ t → IsInOrder new next (kept_keys (k ∷ older))) [
         | true ↦ λ e.
             subst (λ (l : List ℕ). IsInOrder new next l) (sym (drops_key k older e))
@@ -160,19 +160,19 @@ module _ (old new : Slab Cgroup) (g : Group) (n : Cgroup) (at_g : get old g.key 
       ] refl
 
   kept-removed : (r : Resource) (top : Ids) (next : ℕ) (older : List ℕ) (m : Cgroup) → IsInOrder old next older → is_parent m.parent g ≡ false
-      → has_child_among (listed old older) g ≡ false → KeepsEffective r top (listed old older) m → KeepsEffective r top (listed new (kept_keys older)) m
+      → has_child_among (entries_kept old older) g ≡ false → KeepsEffective r top (entries_kept old older) m → KeepsEffective r top (entries_kept new (kept_keys older)) m
   kept-removed r top next older m rest none childless kept =
       subst (λ (l : List GroupEntry). KeepsEffective r top l m) (sym (listed-removed next older rest))
-      (kept ∙ standing_alike (requested_of r) top m.parent (share_of r m).requested _ _ (λ p of. sym (effective-without (requested_of r) top g (listed old older) childless p (other p of))))
+      (kept ∙ standing_alike (requested_of r) top m.parent (share_of r m).requested _ _ (λ p of. sym (effective-without (requested_of r) top g (entries_kept old older) childless p (other p of))))
     where
       other : (p : Group) → m.parent ≡ Some p → same_group g p ≡ false
       other p of = same_group_sym g p ∙ ap (λ (o : Option Group). is_parent o g) (sym of) ∙ none
 
-  pub AllKept-removed : (r : Resource) (top : Ids) (next : ℕ) (keys : List ℕ) → IsInOrder old next keys → has_child_among (listed old keys) g ≡ false
+  pub AllKept-removed : (r : Resource) (top : Ids) (next : ℕ) (keys : List ℕ) → IsInOrder old next keys → has_child_among (entries_kept old keys) g ≡ false
       → AllKept r old top keys → AllKept r new top (kept_keys keys)
   AllKept-removed r top next [] _ none kept = tt
   AllKept-removed r top next (k ∷ older) (m, at, knows, below, parent, rest) none kept =
-      let parts : (is_parent m.parent g ≡ false) × (has_child_among (listed old older) g ≡ false) = parts_of k older m at none in
+      let parts : (is_parent m.parent g ≡ false) × (has_child_among (entries_kept old older) g ≡ false) = parts_of k older m at none in
       elim (k == g.key) as (λ t. (k == g.key) ≡ t → AllKept r new top (kept_keys (k ∷ older))) [
         | true ↦ λ e.
             subst (λ (l : List ℕ). AllKept r new top l) (sym (drops_key k older e)) (AllKept-removed r top m.group.serial older rest parts.1 kept.1)
@@ -180,7 +180,7 @@ module _ (old new : Slab Cgroup) (g : Group) (n : Cgroup) (at_g : get old g.key 
             subst (λ (l : List ℕ). AllKept r new top l) (sym (keeps_key k older e)) (
               (λ x is.
                   let one : m ≡ x = same_Some m x (sym at ∙ sym (kept_at k e) ∙ is) in
-                  subst (λ (y : Cgroup). KeepsEffective r top (listed new (kept_keys older)) y) one
+                  subst (λ (y : Cgroup). KeepsEffective r top (entries_kept new (kept_keys older)) y) one
                   (kept-removed r top m.group.serial older m rest parts.0 parts.1 (kept.0 m at))),
               AllKept-removed r top m.group.serial older rest parts.1 kept.1,
             )
@@ -212,24 +212,24 @@ module _ (old new : Slab Cgroup) (g : Group) (n : Cgroup) (at_g : get old g.key 
           ] refl
 
   pub root-removed : is_none n.parent ≡ false → (next : ℕ) (keys : List ℕ) → IsInOrder old next keys
-      → root_among (listed new (kept_keys keys)) ≡ root_among (listed old keys)
+      → root_among (entries_kept new (kept_keys keys)) ≡ root_among (entries_kept old keys)
   root-removed child next keys order = ap root_among (listed-removed next keys order) ∙ stays next keys order
     where
-      stays : (next : ℕ) (keys : List ℕ) → IsInOrder old next keys → root_among (kept_groups (listed old keys)) ≡ root_among (listed old keys)
+      stays : (next : ℕ) (keys : List ℕ) → IsInOrder old next keys → root_among (kept_groups (entries_kept old keys)) ≡ root_among (entries_kept old keys)
       stays next [] _ = refl
       stays next (k ∷ older) (m, at, knows, below, parent, rest) =
-          elim (k == g.key) as (λ t. (k == g.key) ≡ t → root_among (kept_groups (listed old (k ∷ older))) ≡ root_among (listed old (k ∷ older))) [
+          elim (k == g.key) as (λ t. (k == g.key) ≡ t → root_among (kept_groups (entries_kept old (k ∷ older))) ≡ root_among (entries_kept old (k ∷ older))) [
             | true ↦ λ e.
                 let child_m : is_none m.parent ≡ false =
                 ap (λ (x : Cgroup). is_none x.parent) (same_Some m n (sym at ∙ ap (get old) (eqb-true k g.key e) ∙ at_g)) ∙ child in
                 ap (λ (l : List GroupEntry). root_among (kept_groups l)) (listed_at old k older m at)
-                ∙ ap root_among (drops_group (entry_of_kept m) (listed old older) (is_it k m at e))
+                ∙ ap root_among (drops_group (entry_of_kept m) (entries_kept old older) (is_it k m at e))
                 ∙ stays m.group.serial older rest
-                ∙ sym (ap root_among (listed_at old k older m at) ∙ ap (option_map (λ e. e.group)) (cond-false (is_none m.parent) (Some (entry_of_kept m)) (find (λ e. is_none e.parent) (listed old older)) child_m))
+                ∙ sym (ap root_among (listed_at old k older m at) ∙ ap (option_map (λ e. e.group)) (cond-false (is_none m.parent) (Some (entry_of_kept m)) (find (λ e. is_none e.parent) (entries_kept old older)) child_m))
             | false ↦ λ e.
                 ap (λ (l : List GroupEntry). root_among (kept_groups l)) (listed_at old k older m at)
-                ∙ ap root_among (keeps_group (entry_of_kept m) (listed old older) (is_other k m knows e))
-                ∙ elim (is_none m.parent) as (λ t. is_none m.parent ≡ t → root_among (entry_of_kept m ∷ kept_groups (listed old older)) ≡ root_among (entry_of_kept m ∷ listed old older)) [
+                ∙ ap root_among (keeps_group (entry_of_kept m) (entries_kept old older) (is_other k m knows e))
+                ∙ elim (is_none m.parent) as (λ t. is_none m.parent ≡ t → root_among (entry_of_kept m ∷ kept_groups (entries_kept old older)) ≡ root_among (entry_of_kept m ∷ entries_kept old older)) [
                   | true ↦ λ h. rw h
                   | false ↦ λ h. rw h (stays m.group.serial older rest)
                 ] refl

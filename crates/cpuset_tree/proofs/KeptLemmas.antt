@@ -17,22 +17,22 @@ use Rattle.cpuset_tree.specs.TreeState.{GroupEntry}
 use Rattle.cpuset_tree.specs.Groups.{same_group, entry_among, is_parent, child_among}
 use Rattle.cpuset_tree.specs.Effective.{standing, effective}
 use Rattle.cpuset_tree.specs.TreeWellFormed.{ParentIsAmong, IsFalling}
-use Rattle.cpuset_tree.specs.Kept.{entry_of_kept, before, listed, HasParentAmong, IsInOrder, IsOrder, share_of, requested_of, KeepsEffective, AllKept, effective_kept}
+use Rattle.cpuset_tree.specs.Kept.{entry_of_kept, before, entries_kept, HasParentAmong, IsInOrder, IsOrder, share_of, requested_of, KeepsEffective, AllKept, effective_kept}
 use Rattle.cpuset_tree.specs.GroupLemmas.{same_group-key, entry_among-there, effective-here, effective-there}
 
 -- the group under a key that has one stands before the older ones
-pub listed_at : (s : Slab Cgroup) (key : ℕ) (older : List ℕ) (n : Cgroup) → get s key ≡ Some n → listed s (key ∷ older) ≡ entry_of_kept n ∷ listed s older
-listed_at s key older n at = ap (λ (o : Option Cgroup). before o (listed s older)) at
+pub listed_at : (s : Slab Cgroup) (key : ℕ) (older : List ℕ) (n : Cgroup) → get s key ≡ Some n → entries_kept s (key ∷ older) ≡ entry_of_kept n ∷ entries_kept s older
+listed_at s key older n at = ap (λ (o : Option Cgroup). before o (entries_kept s older)) at
 
 -- the groups of two lists of keys
 before-append : (kept : Option Cgroup) (xs ys : List GroupEntry) → before kept (xs ++ ys) ≡ before kept xs ++ ys
 before-append None xs ys = refl
 before-append (Some n) xs ys = refl
 
-pub listed-append : (s : Slab Cgroup) (keys more : List ℕ) → listed s (keys ++ more) ≡ listed s keys ++ listed s more
+pub listed-append : (s : Slab Cgroup) (keys more : List ℕ) → entries_kept s (keys ++ more) ≡ entries_kept s keys ++ entries_kept s more
 listed-append s [] more = refl
 listed-append s (key ∷ keys) more =
-    ap (λ (l : List GroupEntry). before (get s key) l) (listed-append s keys more) ∙ before-append (get s key) (listed s keys) (listed s more)
+    ap (λ (l : List GroupEntry). before (get s key) l) (listed-append s keys more) ∙ before-append (get s key) (entries_kept s keys) (entries_kept s more)
 
 -- a child among the groups of two lists of keys
 mapped-or : (a b : Option GroupEntry) → option_map (λ (e : GroupEntry). e.group) (option_or a b)
@@ -41,13 +41,13 @@ mapped-or None b = refl
 mapped-or (Some e) b = refl
 
 pub child_in_two : (s : Slab Cgroup) (newer older keys : List ℕ) (parent : Group) (name : List ℕ) → newer ++ older ≡ keys
-    → child_among (listed s keys) parent name ≡ option_or (child_among (listed s newer) parent name) (child_among (listed s older) parent name)
+    → child_among (entries_kept s keys) parent name ≡ option_or (child_among (entries_kept s newer) parent name) (child_among (entries_kept s older) parent name)
 child_in_two s newer older keys parent name both =
     let is_it : GroupEntry → Bool = λ e. is_parent e.parent parent && pointwise nat_eq e.name name in
-    ap (λ (k : List ℕ). child_among (listed s k) parent name) (sym both)
+    ap (λ (k : List ℕ). child_among (entries_kept s k) parent name) (sym both)
     ∙ ap (λ (l : List GroupEntry). child_among l parent name) (listed-append s newer older)
-    ∙ ap (λ (o : Option GroupEntry). option_map (λ (e : GroupEntry). e.group) o) (find-append is_it (listed s newer) (listed s older))
-    ∙ mapped-or (find is_it (listed s newer)) (find is_it (listed s older))
+    ∙ ap (λ (o : Option GroupEntry). option_map (λ (e : GroupEntry). e.group) o) (find-append is_it (entries_kept s newer) (entries_kept s older))
+    ∙ mapped-or (find is_it (entries_kept s newer)) (find is_it (entries_kept s older))
 
 -- a key whose group is as new as this is not among the older keys
 pub key_is_absent : (s : Slab Cgroup) (next : ℕ) (keys : List ℕ) → IsInOrder s next keys → (key : ℕ) (n : Cgroup) → get s key ≡ Some n → next ≤ n.group.serial
@@ -73,11 +73,11 @@ vacant_is_absent s next (k ∷ older) (m, at_k, knows, below, parent, rest) key 
 
 -- the groups of other keys
 pub listed-others : (old new : Slab Cgroup) (key : ℕ) → ((other : ℕ) → other ≢ key → get new other ≡ get old other)
-    → (keys : List ℕ) → list_any (λ k. k == key) keys ≡ false → listed new keys ≡ listed old keys
+    → (keys : List ℕ) → list_any (λ k. k == key) keys ≡ false → entries_kept new keys ≡ entries_kept old keys
 listed-others old new key others [] none = refl
 listed-others old new key others (k ∷ older) none =
     let parts : ((k == key) ≡ false) × (list_any (λ k. k == key) older ≡ false) = or_parts (k == key) (list_any (λ k. k == key) older) none in
-    ap (λ (o : Option Cgroup). before o (listed new older)) (others k (λ e. both_ways (k == key) parts.0 (eq-eqb k key e)))
+    ap (λ (o : Option Cgroup). before o (entries_kept new older)) (others k (λ e. both_ways (k == key) parts.0 (eq-eqb k key e)))
     ∙ ap (λ (l : List GroupEntry). before (get old k) l) (listed-others old new key others older parts.1)
 
 pub AllKept-others : (r : Resource) (old new : Slab Cgroup) (top : Ids) (key : ℕ) → ((other : ℕ) → other ≢ key → get new other ≡ get old other)
@@ -96,20 +96,20 @@ requested_of_kept Mems n = refl
 
 -- the set that is kept of a group is the one in effect
 pub kept-effective : (r : Resource) (s : Slab Cgroup) (top : Ids) (next : ℕ) (keys : List ℕ) → IsInOrder s next keys → AllKept r s top keys → (p : Group)
-    → is_some (entry_among (listed s keys) p) ≡ true → effective_kept r (get s p.key) ≡ effective (requested_of r) top (listed s keys) p
+    → is_some (entry_among (entries_kept s keys) p) ≡ true → effective_kept r (get s p.key) ≡ effective (requested_of r) top (entries_kept s keys) p
 kept-effective r s top next [] _ _ p there = absurd (both_ways false refl there)
 kept-effective r s top next (k ∷ older) (m, at, knows, below, parent, rest) kept p there =
     subst (λ (l : List GroupEntry). is_some (entry_among l p) ≡ true → effective_kept r (get s p.key) ≡ effective (requested_of r) top l p) (sym (listed_at s k older m at))
     (λ there.
-    elim (same_group m.group p) as (λ t. same_group m.group p ≡ t → effective_kept r (get s p.key) ≡ effective (requested_of r) top (entry_of_kept m ∷ listed s older) p) [
+    elim (same_group m.group p) as (λ t. same_group m.group p ≡ t → effective_kept r (get s p.key) ≡ effective (requested_of r) top (entry_of_kept m ∷ entries_kept s older) p) [
       | true ↦ λ e.
           ap (λ (q : ℕ). effective_kept r (get s q)) (sym (sym knows ∙ same_group-key m.group p e))
           ∙ ap (effective_kept r) at ∙ kept.0 m at
-          ∙ ap (λ (asked : Ids). standing m.parent asked top (effective (requested_of r) top (listed s older))) (sym (requested_of_kept r m))
-          ∙ sym (effective-here (requested_of r) top (entry_of_kept m) (listed s older) p e)
+          ∙ ap (λ (asked : Ids). standing m.parent asked top (effective (requested_of r) top (entries_kept s older))) (sym (requested_of_kept r m))
+          ∙ sym (effective-here (requested_of r) top (entry_of_kept m) (entries_kept s older) p e)
       | false ↦ λ e.
-          kept-effective r s top m.group.serial older rest kept.1 p (ap is_some (sym (entry_among-there (entry_of_kept m) (listed s older) p e)) ∙ there)
-          ∙ sym (effective-there (requested_of r) top (entry_of_kept m) (listed s older) p e)
+          kept-effective r s top m.group.serial older rest kept.1 p (ap is_some (sym (entry_among-there (entry_of_kept m) (entries_kept s older) p e)) ∙ there)
+          ∙ sym (effective-there (requested_of r) top (entry_of_kept m) (entries_kept s older) p e)
     ] refl)
     there
 
@@ -120,11 +120,11 @@ IsOrder-drop s (suc n) [] order = order
 IsOrder-drop s (suc n) (k ∷ older) (next, (m, at, knows, below, parent, rest)) = IsOrder-drop s n older (m.group.serial, rest)
 
 -- what is listed is well formed
-pub IsFalling-listed : (s : Slab Cgroup) (next : ℕ) (keys : List ℕ) → IsInOrder s next keys → IsFalling next (listed s keys)
+pub IsFalling-listed : (s : Slab Cgroup) (next : ℕ) (keys : List ℕ) → IsInOrder s next keys → IsFalling next (entries_kept s keys)
 IsFalling-listed s next [] _ = tt
 IsFalling-listed s next (k ∷ older) (m, at, knows, below, parent, rest) =
     subst (λ (l : List GroupEntry). IsFalling next l) (sym (listed_at s k older m at)) (below, up m.parent parent, IsFalling-listed s m.group.serial older rest)
   where
-    up : (parent : Option Group) → HasParentAmong s parent older → ParentIsAmong parent (listed s older)
-    up None h = ap (listed s) h
+    up : (parent : Option Group) → HasParentAmong s parent older → ParentIsAmong parent (entries_kept s older)
+    up None h = ap (entries_kept s) h
     up (Some p) h = h

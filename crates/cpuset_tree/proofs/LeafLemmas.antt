@@ -3,14 +3,14 @@ use Rattle.std.proofs.Common.{◌≡◌, ℕ, ◌<◌, ◌≤◌, List, [], ◌�
 use Rattle.std.proofs.lemmas.Bool.{cases_eq}
 use Rattle.std.proofs.lemmas.Option.{same_Some}
 use Rattle.std.specs.Prelude.{◌≢◌, Option, Some}
-use Rattle.faults.specs.Tests.{mapped}
+use Rattle.faults.specs.TestLaws.{mapped}
 use Rattle.slab.specs.Slab.{Slab, get}
 use Rattle.cpu_set.specs.Ids.{Ids}
 use Rattle.cpuset_tree.specs.declared.groups.Group.{Group}
 use Rattle.cpuset_tree.specs.declared.groups.Cgroup.{Cgroup}
 use Rattle.cpuset_tree.specs.declared.groups.Resource.{Resource}
 use Rattle.cpuset_tree.specs.declared.groups.Resource.TheVariants.{Cpus, Mems}
-use Rattle.cpuset_tree.specs.Kept.{listed, IsInOrder, KeepsEffective, AllKept, AreParentsUpTo, effective_kept, stands, with_effective, passed, IsGranted, ElsewhereGranted, ChangesAt, bare, OnlyKeptDiffers}
+use Rattle.cpuset_tree.specs.Kept.{entries_kept, IsInOrder, KeepsEffective, AllKept, AreParentsUpTo, effective_kept, stands, with_effective, passed, IsGranted, ElsewhereGranted, ChangesAt, bare, OnlyKeptDiffers}
 use Rattle.cpuset_tree.proofs.PlaceLemmas.{SamePlaces, SamePlaces-from_kept, same_from_change, IsInOrder-same}
 use Rattle.cpuset_tree.proofs.ParentLemmas.{was_there, AreParentsUpTo-same}
 use Rattle.cpuset_tree.proofs.RefreshLemmas.{at_parent, kept_among, stands-effective, stands_alike, own_change, passed_changed, passed_bare}
@@ -72,7 +72,7 @@ module _ (r : Resource) (mid new : Slab Cgroup) (top : Ids) (g : Group) (change 
         let other : (p : Group) → m.parent ≡ Some p → p.key ≢ g.key = λ p of.
         let x = kept_among new m.group.serial older rest p (at_parent new older m parent p of) in
         not_parent m.group.serial k older m at rest p of x.0 x.1 x.2 in (
-          (λ n is. subst (λ (x : Cgroup). KeepsEffective r top (listed new older) x) (same_Some m n (sym at ∙ is))
+          (λ n is. subst (λ (x : Cgroup). KeepsEffective r top (entries_kept new older) x) (same_Some m n (sym at ∙ is))
               (granted k m at other ∙ stands-effective r new top m.group.serial older m rest of_older parent)),
           of_older,
         )

@@ -8,7 +8,7 @@ use Rattle.std.proofs.lemmas.Slice.Eq.{bytes_eq-Decides}
 use Rattle.std.specs.Prelude.{Option, Some, None, option_map, string_bytes, slice_index_or, nat_eq}
 use Rattle.std.specs.List.{list_any}
 use Rattle.std.specs.Cmp.Lexicographic.{pointwise}
-use Rattle.faults.specs.Tests.{mapped}
+use Rattle.faults.specs.TestLaws.{mapped}
 use Rattle.slab.specs.Slab.{Slab, get, Updates}
 use Rattle.cpu_set.specs.Ids.{Ids}
 use Rattle.cpuset_tree.specs.declared.groups.Group.{Group}
@@ -17,7 +17,7 @@ use Rattle.cpuset_tree.specs.declared.groups.Resource.{Resource}
 use Rattle.cpuset_tree.specs.declared.groups.Resource.TheVariants.{Cpus, Mems}
 use Rattle.cpuset_tree.specs.TreeLemmas.{is_parent-some}
 use Rattle.cpuset_tree.specs.Groups.{is_parent, child_among}
-use Rattle.cpuset_tree.specs.Kept.{before, listed, entry_of_kept, bare, OnlyKeptDiffers, ChangesAt, mark_of, AreMarked, AreSameBut, with_requested}
+use Rattle.cpuset_tree.specs.Kept.{before, entries_kept, entry_of_kept, bare, OnlyKeptDiffers, ChangesAt, mark_of, AreMarked, AreSameBut, with_requested}
 use Rattle.cpuset_tree.proofs.PlaceLemmas.{same_from_change}
 
 -- one number more at the end
@@ -112,14 +112,14 @@ module _ (s : Slab Cgroup) (marks : List ℕ) (parent : Group) (name : List ℕ)
       list_any_at (λ m. m == mark_of parent name) marks key 0 its.0 (eq-eqb (slice_index_or marks key 0) (mark_of parent name) (its.1 ∙ ap (mark_of parent) named))
 
   -- where the mark is not there, the child is not
-  pub no_child : list_any (λ m. m == mark_of parent name) marks ≡ false → (keys : List ℕ) → child_among (listed s keys) parent name ≡ None
+  pub no_child : list_any (λ m. m == mark_of parent name) marks ≡ false → (keys : List ℕ) → child_among (entries_kept s keys) parent name ≡ None
   no_child none [] = refl
   no_child none (key ∷ older) =
-      elim (get s key) as (λ o. get s key ≡ o → child_among (before o (listed s older)) parent name ≡ None) [
+      elim (get s key) as (λ o. get s key ≡ o → child_among (before o (entries_kept s older)) parent name ≡ None) [
         | None ↦ λ _. no_child none older
         | Some n ↦ λ at.
             elim (is_parent n.parent parent && pointwise nat_eq (string_bytes n.name) name)
-            as (λ t. (is_parent n.parent parent && pointwise nat_eq (string_bytes n.name) name) ≡ t → child_among (entry_of_kept n ∷ listed s older) parent name ≡ None) [
+            as (λ t. (is_parent n.parent parent && pointwise nat_eq (string_bytes n.name) name) ≡ t → child_among (entry_of_kept n ∷ entries_kept s older) parent name ≡ None) [
               | true ↦ λ is. absurd (both_ways (list_any (λ m. m == mark_of parent name) marks) none (its_mark key n at is))
               | false ↦ λ is. rw is (no_child none older)
             ] refl

@@ -4,7 +4,7 @@ use Rattle.std.proofs.lemmas.Bool.{both_ways, cond-true, cond-false, and_left, a
 use Rattle.std.specs.Prelude.{◌⊎◌, ◌==◌}
 use Rattle.std.specs.FinSet as set
 use Rattle.cpu_set.specs.Ids.{Ids, is_empty}
-use Rattle.cpu_set.specs.Pointwise.{same_members, contains-insert, contains-remove, contains-intersection}
+use Rattle.cpu_set.specs.PointwiseLaws.{same_members, contains-insert, contains-remove, contains-intersection}
 use Rattle.cpu_set.specs.SetLaws.{empty_of_none, none_of_empty}
 use Rattle.cpuset_tree.specs.Effective.{granted}
 use Rattle.cpuset_tree.specs.GrantedLemmas.{is_empty-empty}

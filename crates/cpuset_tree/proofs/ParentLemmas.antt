@@ -3,7 +3,7 @@ use Rattle.std.proofs.Common.{◌≡◌, ℕ, ◌≤◌, sym, ap, ◌∙◌, sub
 use Rattle.std.proofs.lemmas.Bool.{cases_eq}
 use Rattle.std.proofs.lemmas.Option.{same_Some, none-some}
 use Rattle.std.specs.Prelude.{Option, Some, None, option_map}
-use Rattle.faults.specs.Tests.{mapped}
+use Rattle.faults.specs.TestLaws.{mapped}
 use Rattle.slab.specs.Slab.{Slab, get, Updates}
 use Rattle.cpuset_tree.specs.declared.groups.Group.{Group}
 use Rattle.cpuset_tree.specs.declared.groups.Cgroup.{Cgroup}

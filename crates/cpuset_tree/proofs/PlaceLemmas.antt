@@ -4,7 +4,7 @@ use Rattle.std.proofs.lemmas.Bool.{cases_eq}
 use Rattle.std.specs.Prelude.{Option, Some, None, is_some, is_none, option_map, find, ◌==◌}
 use Rattle.std.proofs.Common.{⊎_elim}
 use Rattle.std.specs.List.{list_any}
-use Rattle.faults.specs.Tests.{mapped}
+use Rattle.faults.specs.TestLaws.{mapped}
 use Rattle.slab.specs.Slab.{Slab, get}
 use Rattle.cpuset_tree.specs.declared.groups.Group.{Group}
 use Rattle.cpuset_tree.specs.declared.groups.Cgroup.{Cgroup}
@@ -12,7 +12,7 @@ use Rattle.cpuset_tree.specs.declared.groups.Resource.{Resource}
 use Rattle.cpuset_tree.specs.declared.groups.Resource.TheVariants.{Cpus, Mems}
 use Rattle.cpuset_tree.specs.TreeState.{GroupEntry}
 use Rattle.cpuset_tree.specs.Groups.{same_group, entry_among, root_among}
-use Rattle.cpuset_tree.specs.Kept.{before, listed, HasParentAmong, IsInOrder, IsOrder, ChangesAt, bare, OnlyKeptDiffers}
+use Rattle.cpuset_tree.specs.Kept.{before, entries_kept, HasParentAmong, IsInOrder, IsOrder, ChangesAt, bare, OnlyKeptDiffers}
 
 -- a group and its parent
 abbrev pub place : Cgroup → Group × Option Group
@@ -59,13 +59,13 @@ before_places None l = refl
 before_places (Some n) l = refl
 
 module _ (old new : Slab Cgroup) (same : SamePlaces old new) where
-  pub places-listed : (keys : List ℕ) → map entry_place (listed new keys) ≡ map entry_place (listed old keys)
+  pub places-listed : (keys : List ℕ) → map entry_place (entries_kept new keys) ≡ map entry_place (entries_kept old keys)
   places-listed [] = refl
   places-listed (k ∷ older) =
-      before_places (get new k) (listed new older)
-      ∙ ap (λ (o : Option (Group × Option Group)). front o (map entry_place (listed new older))) (same k)
+      before_places (get new k) (entries_kept new older)
+      ∙ ap (λ (o : Option (Group × Option Group)). front o (map entry_place (entries_kept new older))) (same k)
       ∙ ap (front (option_map place (get old k))) (places-listed older)
-      ∙ sym (before_places (get old k) (listed old older))
+      ∙ sym (before_places (get old k) (entries_kept old older))
 
 -- what is read of groups and parents alone
 among-places : (groups : List GroupEntry) (p : Group) → is_some (entry_among groups p) ≡ list_any (λ q. same_group q.0 p) (map entry_place groups)
@@ -85,13 +85,13 @@ root-places (e ∷ older) =
     ] refl
 
 module _ (old new : Slab Cgroup) (same : SamePlaces old new) where
-  pub among-same : (keys : List ℕ) (p : Group) → is_some (entry_among (listed new keys) p) ≡ is_some (entry_among (listed old keys) p)
-  among-same keys p = among-places (listed new keys) p ∙ ap (list_any (λ q. same_group q.0 p)) (places-listed old new same keys) ∙ sym (among-places (listed old keys) p)
+  pub among-same : (keys : List ℕ) (p : Group) → is_some (entry_among (entries_kept new keys) p) ≡ is_some (entry_among (entries_kept old keys) p)
+  among-same keys p = among-places (entries_kept new keys) p ∙ ap (list_any (λ q. same_group q.0 p)) (places-listed old new same keys) ∙ sym (among-places (entries_kept old keys) p)
 
-  pub root-same : (keys : List ℕ) → root_among (listed new keys) ≡ root_among (listed old keys)
+  pub root-same : (keys : List ℕ) → root_among (entries_kept new keys) ≡ root_among (entries_kept old keys)
   root-same keys =
-      root-places (listed new keys) ∙ ap (λ (l : List (Group × Option Group)). option_map (λ q. q.0) (find (λ q. is_none q.1) l)) (places-listed old new same keys)
-      ∙ sym (root-places (listed old keys))
+      root-places (entries_kept new keys) ∙ ap (λ (l : List (Group × Option Group)). option_map (λ q. q.0) (find (λ q. is_none q.1) l)) (places-listed old new same keys)
+      ∙ sym (root-places (entries_kept old keys))
 
   pub complete-same : (keys : List ℕ) → ((key : ℕ) → is_some (get old key) ≡ true → list_any (λ k. k == key) keys ≡ true)
       → (key : ℕ) → is_some (get new key) ≡ true → list_any (λ k. k == key) keys ≡ true

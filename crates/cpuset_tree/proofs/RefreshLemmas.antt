@@ -15,7 +15,7 @@ use Rattle.cpuset_tree.specs.declared.groups.Resource.TheVariants.{Cpus, Mems}
 use Rattle.cpuset_tree.specs.TreeState.{GroupEntry}
 use Rattle.cpuset_tree.specs.Groups.{same_group, entry_among, root_among}
 use Rattle.cpuset_tree.specs.Effective.{standing, effective}
-use Rattle.cpuset_tree.specs.Kept.{entry_of_kept, listed, HasParentAmong, IsInOrder, IsOrder, share_of, requested_of, top_of, KeepsEffective, AllKept, IsSound, effective_kept, stands, with_requested, with_effective, is_older, is_from, may_change, passed, IsGranted, OthersGranted, ElsewhereGranted, ChangesAt, bare, OnlyKeptDiffers}
+use Rattle.cpuset_tree.specs.Kept.{entry_of_kept, entries_kept, HasParentAmong, IsInOrder, IsOrder, share_of, requested_of, top_of, KeepsEffective, AllKept, IsSound, effective_kept, stands, with_requested, with_effective, is_older, is_from, may_change, passed, IsGranted, OthersGranted, ElsewhereGranted, ChangesAt, bare, OnlyKeptDiffers}
 use Rattle.cpuset_tree.specs.GroupLemmas.{same_group-key, same_group-equal, entry_among-there, standing_alike}
 use Rattle.cpuset_tree.specs.WellFormedLemmas.{serial_below}
 use Rattle.cpuset_tree.proofs.KeptLemmas.{listed_at, key_is_absent, listed-others, AllKept-others, kept-effective, IsOrder-drop, IsFalling-listed}
@@ -27,7 +27,7 @@ pub at_parent : (s : Slab Cgroup) (older : List ℕ) (n : Cgroup) → HasParentA
 at_parent s older n parent p of = subst (λ (o : Option Group). HasParentAmong s o older) of parent
 
 -- what is kept of a group of these keys
-pub kept_among : (s : Slab Cgroup) (next : ℕ) (keys : List ℕ) → IsInOrder s next keys → (p : Group) → is_some (entry_among (listed s keys) p) ≡ true
+pub kept_among : (s : Slab Cgroup) (next : ℕ) (keys : List ℕ) → IsInOrder s next keys → (p : Group) → is_some (entry_among (entries_kept s keys) p) ≡ true
     → (n : Cgroup) × (get s p.key ≡ Some n) × (n.group ≡ p)
 kept_among s next [] _ p there = absurd (both_ways false refl there)
 kept_among s next (k ∷ older) (m, at, knows, below, parent, rest) p there =
@@ -35,13 +35,13 @@ kept_among s next (k ∷ older) (m, at, knows, below, parent, rest) p there =
       | true ↦ λ e. (m, ap (get s) (sym (sym knows ∙ same_group-key m.group p e)) ∙ at, same_group-equal m.group p e)
       | false ↦ λ e.
           kept_among s m.group.serial older rest p
-          (sym (ap is_some (ap (λ (l : List GroupEntry). entry_among l p) (listed_at s k older m at) ∙ entry_among-there (entry_of_kept m) (listed s older) p e)) ∙ there)
+          (sym (ap is_some (ap (λ (l : List GroupEntry). entry_among l p) (listed_at s k older m at) ∙ entry_among-there (entry_of_kept m) (entries_kept s older) p e)) ∙ there)
     ] refl
 
 module _ (r : Resource) (s : Slab Cgroup) (top : Ids) where
   -- what a group is to have is what it has in effect, if the older groups keep what they have
   pub stands-effective : (next : ℕ) (older : List ℕ) (n : Cgroup) → IsInOrder s next older → AllKept r s top older → HasParentAmong s n.parent older
-      → stands r s top n ≡ standing n.parent (share_of r n).requested top (effective (requested_of r) top (listed s older))
+      → stands r s top n ≡ standing n.parent (share_of r n).requested top (effective (requested_of r) top (entries_kept s older))
   stands-effective next older n order kept parent =
       standing_alike (requested_of r) top n.parent (share_of r n).requested _ _ (λ p of. kept-effective r s top next older order kept p (at_parent s older n parent p of))
 
@@ -110,7 +110,7 @@ OthersGranted-elsewhere r s top g here elsewhere key n at quiet =
     (cases_eq key g.key)
 
 -- only the root has no parent
-root_alone : (s : Slab Cgroup) (next : ℕ) (keys : List ℕ) → IsInOrder s next keys → (root : Group) → root_among (listed s keys) ≡ Some root
+root_alone : (s : Slab Cgroup) (next : ℕ) (keys : List ℕ) → IsInOrder s next keys → (root : Group) → root_among (entries_kept s keys) ≡ Some root
     → (key : ℕ) (n : Cgroup) → list_any (λ k. k == key) keys ≡ true → get s key ≡ Some n → n.parent ≡ None → n.group ≡ root
 root_alone s next [] _ root is key n there at none = absurd (both_ways false refl there)
 root_alone s next (k ∷ older) (m, at_k, knows, below, parent, rest) root is key n there at none =
@@ -119,21 +119,21 @@ root_alone s next (k ∷ older) (m, at_k, knows, below, parent, rest) root is ke
           let one : n ≡ m = same_Some n m (sym at ∙ ap (get s) (sym (eqb-true k key e)) ∙ at_k) in
           let top : is_none m.parent ≡ true = ap (λ (x : Cgroup). is_none x.parent) (sym one) ∙ ap is_none none in
           ap (λ (x : Cgroup). x.group) one
-          ∙ same_Some m.group root (sym (ap (option_map (λ (e : GroupEntry). e.group)) (cond-true (is_none m.parent) (Some (entry_of_kept m)) (find (λ e. is_none e.parent) (listed s older)) top)) ∙ here)
+          ∙ same_Some m.group root (sym (ap (option_map (λ (e : GroupEntry). e.group)) (cond-true (is_none m.parent) (Some (entry_of_kept m)) (find (λ e. is_none e.parent) (entries_kept s older)) top)) ∙ here)
       | false ↦ λ e. further m.parent refl (ap (λ b. b || list_any (λ k. k == key) older) (sym e) ∙ there)
           (λ is in_older. root_alone s m.group.serial older rest root is key n in_older at none)
     ] refl
   where
-    here : root_among (entry_of_kept m ∷ listed s older) ≡ Some root
+    here : root_among (entry_of_kept m ∷ entries_kept s older) ≡ Some root
     here = ap root_among (sym (listed_at s k older m at_k)) ∙ is
 
     further : (o : Option Group) → m.parent ≡ o → list_any (λ k. k == key) older ≡ true
-        → (root_among (listed s older) ≡ Some root → list_any (λ k. k == key) older ≡ true → n.group ≡ root) → n.group ≡ root
+        → (root_among (entries_kept s older) ≡ Some root → list_any (λ k. k == key) older ≡ true → n.group ≡ root) → n.group ≡ root
     further None of in_older among =
         absurd (both_ways false refl (sym (ap (list_any (λ k. k == key)) (subst (λ (o : Option Group). HasParentAmong s o older) of parent)) ∙ in_older))
     further (Some p) of in_older among =
         among
-        (sym (ap (option_map (λ (e : GroupEntry). e.group)) (cond-false (is_none m.parent) (Some (entry_of_kept m)) (find (λ e. is_none e.parent) (listed s older)) (ap is_none of))) ∙ here)
+        (sym (ap (option_map (λ (e : GroupEntry). e.group)) (cond-false (is_none m.parent) (Some (entry_of_kept m)) (find (λ e. is_none e.parent) (entries_kept s older)) (ap is_none of))) ∙ here)
         in_older
 
 -- once other CPUs are online, all groups but the root are granted what is kept of them
@@ -159,12 +159,12 @@ OthersGranted-online s keys online nodes root next sound now key n at quiet = be
 
 -- one group more keeps what it has in effect, by a change of it alone
 AllKept-more : (r : Resource) (old new : Slab Cgroup) (top : Ids) (key : ℕ) (older : List ℕ) (m : Cgroup) (f : Cgroup → Cgroup)
-    → list_any (λ k. k == key) older ≡ false → get old key ≡ Some m → ChangesAt old new key f → KeepsEffective r top (listed old older) (f m)
+    → list_any (λ k. k == key) older ≡ false → get old key ≡ Some m → ChangesAt old new key f → KeepsEffective r top (entries_kept old older) (f m)
     → AllKept r old top older → AllKept r new top (key ∷ older)
 AllKept-more r old new top key older m f absent at change keeps kept = (
   (λ n is.
       subst (λ (l : List GroupEntry). KeepsEffective r top l n) (sym (listed-others old new key change.others older absent))
-      (subst (λ (x : Cgroup). KeepsEffective r top (listed old older) x)
+      (subst (λ (x : Cgroup). KeepsEffective r top (entries_kept old older) x)
       (same_Some (f m) n (ap (option_map f) (sym at) ∙ sym change.changed ∙ is)) keeps)),
   AllKept-others r old new top key change.others older absent kept,
 )
@@ -220,7 +220,7 @@ older_stays s written m older order parent lt =
     from : (o : Option Group) → HasParentAmong s o older → is_from written o ≡ false
     from None h = refl
     from (Some p) h =
-        let lower : p.serial < m.group.serial = serial_below m.group.serial (listed s older) (IsFalling-listed s m.group.serial older order) p h in
+        let lower : p.serial < m.group.serial = serial_below m.group.serial (entries_kept s older) (IsFalling-listed s m.group.serial older order) p h in
         not_from written p.serial (omega arith)
 
 -- and so those are up to date that are older
@@ -229,7 +229,7 @@ AllKept-older : (r : Resource) (s : Slab Cgroup) (top : Ids) (written next : ℕ
 AllKept-older r s top written next [] le _ granted = tt
 AllKept-older r s top written next (k ∷ older) le (m, at, knows, below, parent, rest) granted =
     let kept : AllKept r s top older = AllKept-older r s top written m.group.serial older (omega arith) rest granted in (
-      (λ n is. subst (λ (x : Cgroup). KeepsEffective r top (listed s older) x) (same_Some m n (sym at ∙ is))
+      (λ n is. subst (λ (x : Cgroup). KeepsEffective r top (entries_kept s older) x) (same_Some m n (sym at ∙ is))
           (granted k m at (older_stays s written m older rest parent (omega arith)) ∙ stands-effective r s top m.group.serial older m rest kept parent)),
       kept,
     )
@@ -298,16 +298,16 @@ module _ (r : Resource) (mid : Slab Cgroup) (top : Ids) (written : ℕ) (keys : 
           }
         where
           keeps : (key : ℕ) (m : Cgroup) → get cur key ≡ Some m → get cur key ≡ get mid key → IsInOrder cur m.group.serial (drop place keys)
-              → HasParentAmong cur m.parent (drop place keys) → KeepsEffective r top (listed cur (drop place keys)) (passed r cur top written m)
+              → HasParentAmong cur m.parent (drop place keys) → KeepsEffective r top (entries_kept cur (drop place keys)) (passed r cur top written m)
           keeps key m at as_before rest parent =
-              let due : stands r cur top m ≡ standing m.parent (share_of r m).requested top (effective (requested_of r) top (listed cur (drop place keys))) =
+              let due : stands r cur top m ≡ standing m.parent (share_of r m).requested top (effective (requested_of r) top (entries_kept cur (drop place keys))) =
               stands-effective r cur top m.group.serial (drop place keys) m rest so_far.kept parent in
-              elim (may_change written m) as (λ t. may_change written m ≡ t → KeepsEffective r top (listed cur (drop place keys)) (passed r cur top written m)) [
+              elim (may_change written m) as (λ t. may_change written m ≡ t → KeepsEffective r top (entries_kept cur (drop place keys)) (passed r cur top written m)) [
                 | true ↦ λ e.
-                    subst (λ (x : Cgroup). KeepsEffective r top (listed cur (drop place keys)) x) (sym (passed_changed r cur top written m e))
-                    (given_keeps r top (stands r cur top m) (listed cur (drop place keys)) m due)
+                    subst (λ (x : Cgroup). KeepsEffective r top (entries_kept cur (drop place keys)) x) (sym (passed_changed r cur top written m e))
+                    (given_keeps r top (stands r cur top m) (entries_kept cur (drop place keys)) m due)
                 | false ↦ λ e.
-                    subst (λ (x : Cgroup). KeepsEffective r top (listed cur (drop place keys)) x) (sym (passed_kept r cur top written m e))
+                    subst (λ (x : Cgroup). KeepsEffective r top (entries_kept cur (drop place keys)) x) (sym (passed_kept r cur top written m e))
                     (granted key m (sym as_before ∙ at) e
                     ∙ sym (stands_alike r mid cur top m (λ p of. ap (effective_kept r) (above p of (or_parts (is_from written m.parent) (m.group.serial == written) e).0)))
                     ∙ due)

@@ -2,7 +2,7 @@
 use Rattle.std.proofs.Common.{◌≡◌, ℕ, List, [], ◌∷◌, if◌then◌else◌, refl, sym, ap, ◌∙◌, subst}
 use Rattle.std.proofs.lemmas.Option.{same_Some, none-some}
 use Rattle.std.specs.Prelude.{Option, Some, None, option_map}
-use Rattle.faults.specs.Tests.{mapped}
+use Rattle.faults.specs.TestLaws.{mapped}
 use Rattle.slab.specs.Slab.{Slab, get}
 use Rattle.cpu_set.specs.Ids.{Ids}
 use Rattle.cpuset_tree.specs.declared.groups.Group.{Group}
@@ -13,7 +13,7 @@ use Rattle.cpuset_tree.specs.declared.groups.Share.{Share}
 use Rattle.cpuset_tree.specs.TreeState.{GroupEntry}
 use Rattle.cpuset_tree.specs.Groups.{same_group}
 use Rattle.cpuset_tree.specs.Effective.{standing, effective}
-use Rattle.cpuset_tree.specs.Kept.{entry_of_kept, before, listed, share_of, requested_of, AllKept}
+use Rattle.cpuset_tree.specs.Kept.{entry_of_kept, before, entries_kept, share_of, requested_of, AllKept}
 
 -- a group, its parent, and its share of a resource
 abbrev pub Held : Type 0
@@ -49,9 +49,9 @@ effective-before r top (Some x) (Some y) e l m same = λ i p. at p i
         ∙ sym (effective-held r top x l p)
 
 module _ (r : Resource) (old new : Slab Cgroup) (same : SameHeld r old new) (top : Ids) where
-  effective-same : (keys : List ℕ) → effective (requested_of r) top (listed new keys) ≡ effective (requested_of r) top (listed old keys)
+  effective-same : (keys : List ℕ) → effective (requested_of r) top (entries_kept new keys) ≡ effective (requested_of r) top (entries_kept old keys)
   effective-same [] = refl
-  effective-same (k ∷ older) = effective-before r top (get old k) (get new k) (same k) (listed old older) (listed new older) (effective-same older)
+  effective-same (k ∷ older) = effective-before r top (get old k) (get new k) (same k) (entries_kept old older) (entries_kept new older) (effective-same older)
 
   -- what is kept of a group, by what it holds
   abbrev keeps : Held → (Group → Ids) → Type 0
@@ -62,7 +62,7 @@ module _ (r : Resource) (old new : Slab Cgroup) (same : SameHeld r old new) (top
   AllKept-same (k ∷ older) kept = (
     (λ n at.
         let was : (m : Cgroup) × (get old k ≡ Some m) × (held r m ≡ held r n) = mapped (held r) (get old k) (held r n) (sym (same k) ∙ ap (option_map (held r)) at) in
-        subst (λ (h : Held). keeps h (effective (requested_of r) top (listed new older))) was.2
+        subst (λ (h : Held). keeps h (effective (requested_of r) top (entries_kept new older))) was.2
         (subst (λ (f : Group → Ids). keeps (held r was.0) f) (sym (effective-same older)) (kept.0 was.0 was.1))),
     AllKept-same older kept.1,
   )

@@ -13,7 +13,7 @@ use Rattle.cpuset_tree.specs.declared.groups.Share.{Share}
 use Rattle.cpuset_tree.specs.TreeState.{GroupEntry}
 use Rattle.cpuset_tree.specs.Groups.{same_group, entry_among, root_among, has_child_among}
 use Rattle.cpuset_tree.specs.Effective.{granted, standing, effective}
-use Rattle.cpuset_tree.specs.Kept.{entry_of_kept, listed, HasParentAmong, IsInOrder, share_of, unrequested, requested_of, top_of, AllKept, KeepsEffective, IsSound}
+use Rattle.cpuset_tree.specs.Kept.{entry_of_kept, entries_kept, HasParentAmong, IsInOrder, share_of, unrequested, requested_of, top_of, AllKept, KeepsEffective, IsSound}
 use Rattle.cpuset_tree.specs.GrantedLemmas.{granted-empty}
 use Rattle.cpuset_tree.proofs.KeptLemmas.{listed_at, vacant_is_absent, listed-others, AllKept-others}
 use Rattle.cpuset_tree.proofs.PlaceLemmas.{SamePlaces, IsInOrder-same, complete-same, root-same}
@@ -30,14 +30,14 @@ module _ (old new : Slab Cgroup) (keys : List ℕ) (online nodes : Ids) (root : 
   absent : list_any (λ k. k == key) keys ≡ false
   absent = vacant_is_absent old next keys sound.in_order key vacant
 
-  same_older : listed new keys ≡ listed old keys
+  same_older : entries_kept new keys ≡ entries_kept old keys
   same_older = listed-others old new key updates.others keys absent
 
-  pub listed-added : (e : GroupEntry) → entry_of_kept n ≡ e → listed new (key ∷ keys) ≡ e ∷ listed old keys
-  listed-added e is = listed_at new key keys n updates.changed ∙ ap (λ (x : GroupEntry). x ∷ listed new keys) is ∙ ap (λ (l : List GroupEntry). e ∷ l) same_older
+  pub listed-added : (e : GroupEntry) → entry_of_kept n ≡ e → entries_kept new (key ∷ keys) ≡ e ∷ entries_kept old keys
+  listed-added e is = listed_at new key keys n updates.changed ∙ ap (λ (x : GroupEntry). x ∷ entries_kept new keys) is ∙ ap (λ (l : List GroupEntry). e ∷ l) same_older
 
-  pub IsSound-added : (p : Group) → n.group.key ≡ key → n.group.serial ≡ next → n.parent ≡ Some p → is_some (entry_among (listed old keys) p) ≡ true
-      → ((r : Resource) → share_of r n ≡ unrequested (effective (requested_of r) (top_of r online nodes) (listed old keys) p))
+  pub IsSound-added : (p : Group) → n.group.key ≡ key → n.group.serial ≡ next → n.parent ≡ Some p → is_some (entry_among (entries_kept old keys) p) ≡ true
+      → ((r : Resource) → share_of r n ≡ unrequested (effective (requested_of r) (top_of r online nodes) (entries_kept old keys) p))
       → IsSound new (key ∷ keys) online nodes root (next + 1)
   IsSound-added p knows serial of there shares = record {
     in_order = (
@@ -49,7 +49,7 @@ module _ (old new : Slab Cgroup) (keys : List ℕ) (online nodes : Ids) (root : 
       subst (λ (m : ℕ). IsInOrder new m keys) (sym serial) (IsInOrder-others old new key updates.others next keys absent sound.in_order),
     );
     all_kept = λ r. (
-      (λ m at. subst (λ (x : Cgroup). KeepsEffective r (top_of r online nodes) (listed new keys) x) (same_Some n m (sym updates.changed ∙ at)) (here r)),
+      (λ m at. subst (λ (x : Cgroup). KeepsEffective r (top_of r online nodes) (entries_kept new keys) x) (same_Some n m (sym updates.changed ∙ at)) (here r)),
       AllKept-others r old new (top_of r online nodes) key updates.others keys absent (sound.all_kept r),
     );
     complete = λ k at. elim (key == k) as (λ t. (key == k) ≡ t → list_any (λ j. j == k) (key ∷ keys) ≡ true) [
@@ -68,15 +68,15 @@ module _ (old new : Slab Cgroup) (keys : List ℕ) (online nodes : Ids) (root : 
       parent_is = subst (λ (o : Option Group). HasParentAmong new o keys) (sym of)
           (ap (λ (l : List GroupEntry). is_some (entry_among l p)) same_older ∙ there)
 
-      here : (r : Resource) → KeepsEffective r (top_of r online nodes) (listed new keys) n
+      here : (r : Resource) → KeepsEffective r (top_of r online nodes) (entries_kept new keys) n
       here r =
-          let above : Ids = effective (requested_of r) (top_of r online nodes) (listed old keys) p in
+          let above : Ids = effective (requested_of r) (top_of r online nodes) (entries_kept old keys) p in
           subst (λ (l : List GroupEntry). KeepsEffective r (top_of r online nodes) l n) (sym same_older)
           (ap (λ (x : Share). x.effective) (shares r) ∙ sym (granted-empty above)
           ∙ ap (λ (x : Share). granted x.requested above) (sym (shares r))
-          ∙ ap (λ (o : Option Group). standing o (share_of r n).requested (top_of r online nodes) (effective (requested_of r) (top_of r online nodes) (listed old keys))) (sym of))
+          ∙ ap (λ (o : Option Group). standing o (share_of r n).requested (top_of r online nodes) (effective (requested_of r) (top_of r online nodes) (entries_kept old keys))) (sym of))
 
-      elder : (parent : Option Group) → parent ≡ Some p → root_among (record { group = n.group; parent = parent; name = (entry_of_kept n).name; cpus = n.shares.value.cpus.requested; mems = n.shares.value.mems.requested } ∷ listed new keys) ≡ root_among (listed new keys)
+      elder : (parent : Option Group) → parent ≡ Some p → root_among (record { group = n.group; parent = parent; name = (entry_of_kept n).name; cpus = n.shares.value.cpus.requested; mems = n.shares.value.mems.requested } ∷ entries_kept new keys) ≡ root_among (entries_kept new keys)
       elder None e = absurd (none-some p e)
       elder (Some q) e = refl
 
@@ -92,7 +92,7 @@ IsSound-same old new keys online nodes online' nodes' root next sound same kept 
 
 -- one group less
 pub IsSound-removed : (old new : Slab Cgroup) (g : Group) (n : Cgroup) (keys : List ℕ) (online nodes : Ids) (root : Group) (next : ℕ) → IsSound old keys online nodes root next
-    → get old g.key ≡ Some n → same_group n.group g ≡ true → is_none n.parent ≡ false → has_child_among (listed old keys) g ≡ false
+    → get old g.key ≡ Some n → same_group n.group g ≡ true → is_none n.parent ≡ false → has_child_among (entries_kept old keys) g ≡ false
     → Updates old new g.key None → IsSound new (filter (λ k. not (k == g.key)) keys) online nodes root next
 IsSound-removed old new g n keys online nodes root next sound at same child childless updates = record {
   in_order = IsInOrder-removed old new g n at same updates.others next keys sound.in_order childless;

@@ -10,7 +10,7 @@ use Rattle.cpuset_tree.specs.declared.groups.Resource.{Resource}
 use Rattle.cpuset_tree.specs.declared.groups.Resource.TheVariants.{Cpus, Mems}
 use Rattle.cpuset_tree.specs.TreeState.{GroupEntry, TreeState}
 use Rattle.cpuset_tree.specs.Groups.{same_group}
-use Rattle.cpuset_tree.specs.Kept.{entry_of_kept, before, listed, IsOrder, top_of, AllKept, IsSound, with_requested, requesting, with_request, ChangesAt, bare, OnlyKeptDiffers}
+use Rattle.cpuset_tree.specs.Kept.{entry_of_kept, before, entries_kept, IsOrder, top_of, AllKept, IsSound, with_requested, requesting, with_request, ChangesAt, bare, OnlyKeptDiffers}
 use Rattle.cpuset_tree.proofs.PlaceLemmas.{SamePlaces, SamePlaces-from_kept, same_from_change, IsOrder-same}
 use Rattle.cpuset_tree.proofs.ShareLemmas.{held, SameHeld, AllKept-same}
 use Rattle.cpuset_tree.proofs.ChangeLemmas.{listed-written}
@@ -24,12 +24,12 @@ before-bare Cpus (Some n) l = refl
 before-bare Mems (Some n) l = refl
 
 -- what is listed is the same where only the kept sets differ
-pub listed-kept : (r : Resource) (old new : Slab Cgroup) → OnlyKeptDiffers r old new → (keys : List ℕ) → listed new keys ≡ listed old keys
+pub listed-kept : (r : Resource) (old new : Slab Cgroup) → OnlyKeptDiffers r old new → (keys : List ℕ) → entries_kept new keys ≡ entries_kept old keys
 listed-kept r old new same [] = refl
 listed-kept r old new same (k ∷ older) =
-    before-bare r (get new k) (listed new older)
-    ∙ ap (λ (o : Option Cgroup). before o (listed new older)) (same k)
-    ∙ sym (before-bare r (get old k) (listed new older))
+    before-bare r (get new k) (entries_kept new older)
+    ∙ ap (λ (o : Option Cgroup). before o (entries_kept new older)) (same k)
+    ∙ sym (before-bare r (get old k) (entries_kept new older))
     ∙ ap (before (get old k)) (listed-kept r old new same older)
 
 -- the resource that is not this one
@@ -81,7 +81,7 @@ module _ (r : Resource) (ids : Ids) (old mid : Slab Cgroup) (keys : List ℕ) (o
       (λ k. SameHeld-from_kept r mid new same k ∙ same_from_change (with_requested r ids) (held (other r)) (other_requested r ids) old mid g.key change k)
       refl kept
 
-  pub listed-request : (new : Slab Cgroup) → KeptThere old keys g → OnlyKeptDiffers r mid new → listed new keys ≡ map (requesting r g ids) (listed old keys)
+  pub listed-request : (new : Slab Cgroup) → KeptThere old keys g → OnlyKeptDiffers r mid new → entries_kept new keys ≡ map (requesting r g ids) (entries_kept old keys)
   listed-request new there same =
       listed-kept r mid new same keys
       ∙ listed-written old mid g (with_requested r ids) (requesting r g ids) (here r) (elsewhere r)

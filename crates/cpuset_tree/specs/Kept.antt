@@ -26,14 +26,14 @@ before None older = older
 before (Some n) older = entry_of_kept n ∷ older
 
 -- the groups of these keys
-abbrev pub listed : Slab Cgroup → List ℕ → List GroupEntry
-listed s [] = []
-listed s (key ∷ older) = before (get s key) (listed s older)
+abbrev pub entries_kept : Slab Cgroup → List ℕ → List GroupEntry
+entries_kept s [] = []
+entries_kept s (key ∷ older) = before (get s key) (entries_kept s older)
 
 -- a parent is among the groups of these keys, and only the oldest group has none
 abbrev pub HasParentAmong : Slab Cgroup → Option Group → List ℕ → Type 0
 HasParentAmong s None older = older ≡ []
-HasParentAmong s (Some parent) older = is_some (entry_among (listed s older) parent) ≡ true
+HasParentAmong s (Some parent) older = is_some (entry_among (entries_kept s older) parent) ≡ true
 
 -- each key has a group that knows it, the serials fall from here on, and a parent is older
 abbrev pub IsInOrder : Slab Cgroup → ℕ → List ℕ → Type 0
@@ -72,7 +72,7 @@ KeepsEffective r top older n = (share_of r n).effective ≡ standing n.parent (s
 -- the same of each of these keys' groups
 abbrev pub AllKept : Resource → Slab Cgroup → Ids → List ℕ → Type 0
 AllKept r s top [] = Unit {0}
-AllKept r s top (key ∷ older) = ((n : Cgroup) → get s key ≡ Some n → KeepsEffective r top (listed s older) n) × AllKept r s top older
+AllKept r s top (key ∷ older) = ((n : Cgroup) → get s key ≡ Some n → KeepsEffective r top (entries_kept s older) n) × AllKept r s top older
 
 -- no group has a newer parent than the one of this serial
 abbrev pub AreParentsUpTo : Slab Cgroup → ℕ → Type 0
@@ -83,7 +83,7 @@ pub record IsSound (s : Slab Cgroup) (keys : List ℕ) (online nodes : Ids) (roo
   pub in_order : IsInOrder s next keys
   pub all_kept : (r : Resource) → AllKept r s (top_of r online nodes) keys
   pub complete : (key : ℕ) → is_some (get s key) ≡ true → list_any (λ k. k == key) keys ≡ true
-  pub rooted : root_among (listed s keys) ≡ Some root
+  pub rooted : root_among (entries_kept s keys) ≡ Some root
 
 -- what the tree keeps of a group, if it is there
 abbrev pub IsKeptOf : TreeState → Group → Option Cgroup → Type 0

@@ -8,7 +8,7 @@ use Rattle.std.specs.List.{list_any}
 use Rattle.std.specs.Cmp.Lexicographic.{pointwise}
 use Rattle.std.specs.FinSet as set
 use Rattle.cpu_set.specs.Ids.{Ids}
-use Rattle.cpu_set.specs.Pointwise.{same_members, contains-intersection, is_subset-contains}
+use Rattle.cpu_set.specs.PointwiseLaws.{same_members, contains-intersection, is_subset-contains}
 use Rattle.cpuset_tree.specs.declared.groups.Group.{Group}
 use Rattle.cpuset_tree.specs.TreeState.{GroupEntry, TreeState}
 use Rattle.cpuset_tree.specs.Groups.{cpus_in, mems_in, same_group, entry_among, entry_of, has_group, has_children, is_parent, is_root_entry, has_child_among, child_among, root_among}

@@ -4,7 +4,7 @@ ghost use Rattle.cpuset_tree.specs.Groups.{child_among, is_parent};
 ghost use Rattle.cpuset_tree.specs.Effective.{granted};
 ghost use Rattle.cpu_set.specs.Members.{IsCpu};
 ghost use Rattle.cpuset_tree.specs.Near.{having};
-ghost use Rattle.cpuset_tree.specs.Kept.{ChangesAt, listed, share_of, unrequested};
+ghost use Rattle.cpuset_tree.specs.Kept.{ChangesAt, entries_kept, share_of, unrequested};
 ghost use Rattle.cpuset_tree.specs.Kept.{with_requested, with_effective, may_change};
 
 use cpu_set::IdSet;
@@ -156,7 +156,7 @@ pub fn child_among(
     parent: Group,
     name: &str,
 ) -> Option<Group>
-    ensures { result ≡ child_among (listed groups.now keys.now) parent name.now }
+    ensures { result ≡ child_among (entries_kept groups.now keys.now) parent name.now }
 {
     for key in keys {
         if let Some(kept) = groups.get(*key) {

@@ -51,7 +51,8 @@ pub fn note_mark(marks: &mut Vec<u32>, key: usize, mark: u32) -> Result<(), Allo
 
 /// Forgets the mark of the group that was under a key.
 pub fn forget_mark(marks: &mut Vec<u32>, key: usize)
-    ensures { AreSameBut key marks.old.items marks.new.items }
+    ensures forgotten { slice_index_or marks.new.items key 0 ≡ 0 }
+    ensures others { AreSameBut key marks.old.items marks.new.items }
 {
     if let Some(mark) = marks.get_mut(key) {
         *mark = 0;

@@ -54,10 +54,10 @@ impl Model for Tree {
 
     ghost coded = { tree_code };
 
-    ghost use Rattle.cpuset_tree.specs.Kept.{listed, IsSound, AreParentsUpTo, AreMarked};
+    ghost use Rattle.cpuset_tree.specs.Kept.{entries_kept, IsSound, AreParentsUpTo, AreMarked};
 
     ghost view = { λ t. record {
-      groups = listed t.groups t.order.items;
+      groups = entries_kept t.groups t.order.items;
       online = t.online;
       nodes = t.nodes;
       next_serial = t.next_serial;
@@ -184,16 +184,11 @@ impl Tree {
     pub fn make(&mut self, parent: Group, name: &str) -> Result<Group, OrMemory<TreeFault>>
         ensures { Makes self.old parent name.now result self.new }
     {
+        self.makable(parent, name)?;
         let Some(above) = self.cgroup(parent) else {
-            return Err(OrMemory::Fault(TreeFault::NoGroup));
+            unreachable!()
         };
         let shares = Shares::unrequested(above.shares.cpus.effective, above.shares.mems.effective);
-        if self.child(parent, name).is_some() {
-            return Err(OrMemory::Fault(TreeFault::Exists));
-        }
-        if self.next_serial == SERIAL_LIMIT {
-            return Err(OrMemory::Fault(TreeFault::NoSerials));
-        }
         let name = String::from_str(self.alloc, name)?;
         Ok(self.add(parent, name, shares)?)
     }
@@ -212,7 +207,7 @@ impl Tree {
         if self.child(parent, name).is_some() {
             return Err(TreeFault::Exists);
         }
-        if SERIAL_LIMIT == self.next_serial {
+        if self.next_serial == SERIAL_LIMIT {
             return Err(TreeFault::NoSerials);
         }
         Ok(())

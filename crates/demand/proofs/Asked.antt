@@ -5,7 +5,7 @@ use Rattle.std.proofs.lemmas.Bool.{false≢true, both_ways, or_parts}
 use Rattle.std.specs.FinSet as set
 use Rattle.cpu_set.specs.Ids.{Ids}
 use Rattle.cpu_set.specs.Members.{InRange}
-use Rattle.cpu_set.specs.Pointwise.{contains-empty}
+use Rattle.cpu_set.specs.PointwiseLaws.{contains-empty}
 use Rattle.cpu_set.specs.declared.TheConstants.{CPU_LIMIT}
 use Rattle.config_json.specs.SectionOf.{Section}
 use Rattle.machine.specs.Cores.{AreCores}
@@ -22,7 +22,7 @@ use Rattle.demand.specs.DemandFaultOf.{is_pinned, allowed_fault}
 use Rattle.demand.specs.IsDemand.{IsKind, IsDemand}
 use Rattle.demand.specs.FitsMachine.{FitsKind, AsksForCores, FitsMachine}
 use Rattle.demand.proofs.FreeCpus.{IsGiven, allowed_is_given, allowed_is_whole, allowed_in_cores}
-use Rattle.machine.specs.CoreCounts.{none_has}
+use Rattle.machine.specs.CoreCountLaws.{none_has}
 use Rattle.cpu_set.specs.SetLaws.{is_empty-empty, is_empty-some}
 
 -- a shared container has no fault left

@@ -4,13 +4,14 @@ use Rattle.std.proofs.lemmas.Bool.{false≢true, and_parts, not-true, ltb-true, 
 use Rattle.std.specs.FinSet as set
 use Rattle.cpu_set.specs.Ids.{Ids, is_empty}
 use Rattle.cpu_set.specs.Members.{InRange}
-use Rattle.cpu_set.specs.Pointwise.{same_members, contains-intersection, contains-difference, is_subset-contains, contains-is_subset}
+use Rattle.cpu_set.specs.PointwiseLaws.{same_members, contains-intersection, contains-difference, is_subset-contains, contains-is_subset}
 use Rattle.machine.specs.Layout.{Layout}
 use Rattle.machine.specs.Present.{present, IsPresent}
 use Rattle.cpu_set.specs.declared.TheConstants.{CPU_LIMIT}
 use Rattle.machine.specs.Weight.{weight}
-use Rattle.cpu_set.specs.Those.{those, contains-those}
-use Rattle.machine.specs.CoreCounts.{len-whole_in}
+use Rattle.cpu_set.specs.Those.{those}
+use Rattle.cpu_set.specs.ThoseLemmas.{contains-those}
+use Rattle.machine.specs.CoreCountLaws.{len-whole_in}
 use Rattle.machine.specs.Cores.{cores_in, whole_in, IsWhole, AreCores}
 use Rattle.machine.specs.WholeLaws.{whole_in-within, whole_in-IsWhole}
 use Rattle.demand.specs.Allowed.{is_free, is_allowed, allowed_by}

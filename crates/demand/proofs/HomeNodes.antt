@@ -4,7 +4,7 @@ use Rattle.std.proofs.lemmas.Bool.{false≢true, ltb-true}
 use Rattle.std.proofs.lemmas.Bool.Decides.{nat_tests}
 use Rattle.std.specs.FinSet as set
 use Rattle.cpu_set.specs.Ids.{Ids}
-use Rattle.cpu_set.specs.Pointwise.{contains-empty}
+use Rattle.cpu_set.specs.PointwiseLaws.{contains-empty}
 use Rattle.machine.specs.Layout.{Layout, node_count}
 use Rattle.machine.specs.Weight.{AreHomes}
 use Rattle.machine.specs.IsSound.{IsSound}

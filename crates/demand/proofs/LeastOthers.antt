@@ -1,11 +1,11 @@
 -- The least member of one set that is not in another.
 use Rattle.std.proofs.Common.{◌≡◌, ℕ, true, Some, None, sym, ◌∙◌, arith}
 use Rattle.std.specs.FinSet as set
-use Rattle.faults.specs.Tests.{without}
+use Rattle.faults.specs.TestLaws.{without}
 use Rattle.cpu_set.specs.Ids.{Ids, NoneFrom, IsFirstFrom}
 use Rattle.cpu_set.specs.LeastLaws.{least-difference}
 use Rattle.cpu_set.specs.Members.{IsCpu}
-use Rattle.cpu_set.specs.Pointwise.{contains-difference}
+use Rattle.cpu_set.specs.PointwiseLaws.{contains-difference}
 use Rattle.demand.specs.DemandFaultOf.{least_other}
 
 -- none where the difference is empty

@@ -4,10 +4,11 @@ use Rattle.std.proofs.lemmas.Bool.{or_cases}
 use Rattle.std.proofs.lemmas.Bool.Decides.{nat_tests}
 use Rattle.std.specs.FinSet as set
 use Rattle.cpu_set.specs.Least.{least_that}
-use Rattle.cpu_set.specs.Those.{those, contains-those}
-use Rattle.cpu_set.specs.Pointwise.{same_members}
+use Rattle.cpu_set.specs.Those.{those}
+use Rattle.cpu_set.specs.ThoseLemmas.{contains-those}
+use Rattle.cpu_set.specs.PointwiseLaws.{same_members}
 use Rattle.cpu_set.specs.Members.{cpus, members}
-use Rattle.cpu_set.specs.ListedSets.{is_in, contains-listed, len-listed, members-listed, retain-listed, union-listed, is_subset-listed}
+use Rattle.cpu_set.specs.ListedSetLemmas.{is_in, contains-listed, len-listed, members-listed, retain-listed, union-listed, is_subset-listed}
 use Rattle.cpu_set.specs.declared.TheConstants.{CPU_LIMIT}
 use Rattle.cpu_list.specs.ListText.{names}
 use Rattle.machine.specs.Listed.{set_of}

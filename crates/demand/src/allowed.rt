@@ -1,3 +1,4 @@
+//! Which CPUs a container may get: what it names, where it may, less what is reserved.
 ghost use Rattle.std.specs.Prelude.{◌≡◌, ℕ};
 ghost use Rattle.std.specs.FinSet as set;
 ghost use Rattle.machine.specs.Weight.{AreHomes};

@@ -1,4 +1,5 @@
-//! How many CPUs a quota asks for: laws over the definitions alone. Nothing here runs.
+//! What a config asks for, where it may have that, and its first fault: laws over the definitions alone. Nothing here
+//! runs.
 ghost use Rattle.std.specs.Prelude.{◌≡◌, [], ◌∷◌, codes, pos, negsuc};
 ghost use Rattle.std.specs.FinSet as set;
 ghost use Rattle.demand.specs.Allowed.{allowed_of};

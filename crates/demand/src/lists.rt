@@ -1,3 +1,4 @@
+//! The lists of CPUs and of nodes that a config gives, read for this machine.
 ghost use Rattle.std.specs.Prelude.{◌≡◌, ℕ, ◌≤◌, true, IfOk, if◌then◌else◌};
 ghost use Rattle.std.specs.FinSet as set;
 ghost use Rattle.cpu_set.specs.Ids.{is_empty};

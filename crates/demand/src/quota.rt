@@ -1,3 +1,4 @@
+//! How many CPUs a quota and its period ask for.
 ghost use Rattle.std.specs.Prelude.{◌≡◌, ◌*◌, ◌<◌, ◌≤◌, ◌^◌, IfOk, IfSome, IfNone, is_some};
 ghost use Rattle.demand.specs.AsksFor.{AsksFor};
 ghost use Rattle.demand.specs.Quota.{limit_of, period_of, most_cpus, IsCount};

@@ -3,4 +3,4 @@ pub mod FirstLaws
 pub mod Answers
 pub mod Calls
 pub mod FaultTitle
-pub mod Tests
+pub mod TestLaws

@@ -1,3 +1,4 @@
+//! How an allocation failure is called in the line of a refusal.
 ghost use Rattle.std.specs.Prelude.{◌≡◌};
 ghost use Rattle.faults.specs.FaultTitle.{memory_title};
 

@@ -1,7 +1,16 @@
-ghost use Rattle.std.specs.Prelude.{◌≡◌, IfOk};
-ghost use Rattle.json_text.specs.Flaws.{IsFlawIn};
+ghost use Rattle.std.specs.Prelude.{◌≡◌, ◌+◌, ◌<◌, ◌==◌, ◌&&◌, true, false, not, IfOk};
+ghost use Rattle.std.specs.Str.{is_utf8};
+ghost use Rattle.json_text.specs.Flaws.{
+  IsFlawIn,
+  denies_utf8,
+  ends_string,
+  from_place,
+  has_no_end,
+  place_behind,
+};
+ghost use Rattle.json_text.specs.declared.flaw.FlawKind.TheVariants.{CutShort};
 
-use serde_json::{Error, Value};
+use serde_json::Value;
 use std::alloc::{AllocError, Global};
 use std::str;
 
@@ -27,19 +36,6 @@ pub enum FlawKind {
     NotJson,
 }
 
-impl Flaw {
-    /// The place that the reader of JSON tells.
-    fn told(kind: FlawKind, error: &Error) -> Flaw
-        ensures { result.kind ≡ kind }
-    {
-        Flaw {
-            kind,
-            line: error.line(),
-            column: error.column(),
-        }
-    }
-}
-
 /// What keeps the bytes from being JSON, or none where they are JSON. It reads them as [`parse`](crate::parse) does,
 /// once more, so that a refusal needs to carry no place.
 ///
@@ -47,18 +43,91 @@ impl Flaw {
 /// An allocation failure.
 #[tactic(auto, using(crate::proofs::TextTests::utf8_tests), unfolding(crate::specs::JsonOf::json_of))]
 pub fn flaw_in(alloc: Global, bytes: &[u8]) -> Result<Option<Flaw>, AllocError>
-    // It says whether the bytes are JSON, and of others whether they are UTF-8. What line and column it names, and
-    // whether it says that the text ends too early, no clause tells: `serde_json` promises neither. Tests compare the
-    // places with those that Python's JSON finds.
+    // It says whether the bytes are JSON, and of others whether they are UTF-8. It never says of a string that ends
+    // that the text is cut short there. No clause tells more of the line and column, because `serde_json` promises
+    // neither. Tests compare the places with those that Python's JSON finds.
     ensures { IfOk result (IsFlawIn bytes.now) }
 {
     match Value::from_slice(alloc, bytes) {
         Ok(_) => Ok(None),
         Err(error) if error.is_memory() => Err(AllocError),
-        Err(error) if str::from_utf8(bytes).is_err() => {
-            Ok(Some(Flaw::told(FlawKind::NotUtf8, &error)))
+        Err(error) => {
+            let (line, column) = (error.line(), error.column());
+            let breaks_off = error.is_eof() && has_no_end(from_place(bytes, (line, column)));
+            let kind = kind_of(bytes, breaks_off);
+            Ok(Some(Flaw { kind, line, column }))
         }
-        Err(error) if error.is_eof() => Ok(Some(Flaw::told(FlawKind::CutShort, &error))),
-        Err(error) => Ok(Some(Flaw::told(FlawKind::NotJson, &error))),
+    }
+}
+
+/// How bytes that aren't JSON fail to be, of which it is known whether they break off.
+#[tactic(auto, using(crate::proofs::TextTests::utf8_tests))]
+fn kind_of(bytes: &[u8], breaks_off: bool) -> FlawKind
+    ensures utf8 { denies_utf8 result ≡ not (is_utf8 bytes.now) }
+    ensures cut { result ≡ CutShort → breaks_off ≡ true }
+{
+    if str::from_utf8(bytes).is_err() {
+        FlawKind::NotUtf8
+    } else if breaks_off {
+        FlawKind::CutShort
+    } else {
+        FlawKind::NotJson
+    }
+}
+
+/// What stands from this line and column on; nothing if no byte stands there.
+fn from_place(bytes: &[u8], place: (usize, usize)) -> &[u8]
+    ensures { result.now ≡ from_place place (1, 0) bytes.now }
+{
+    let mut behind = (1, 0);
+    for at in 0..bytes.len() {
+        behind = place_behind(behind, bytes[at]);
+        if behind.0 == place.0 && behind.1 == place.1 {
+            return &bytes[at..];
+        }
+    }
+    &[]
+}
+
+/// Whether no string that ends stands first: `"\\u"` is a string that ends, though it is none of JSON.
+fn has_no_end(text: &[u8]) -> bool
+    ensures { result ≡ has_no_end text.now }
+{
+    let Some((first, rest)) = text.split_first() else {
+        return true;
+    };
+    !(*first == b'"' && ends_string(rest))
+}
+
+/// Whether a string ends that these bytes go on.
+fn ends_string(text: &[u8]) -> bool
+    ensures { result ≡ ends_string false text.now }
+{
+    let mut escaped = false;
+    for byte in text {
+        if !escaped && *byte == b'"' {
+            return true;
+        }
+        escaped = is_escape(escaped, *byte);
+    }
+    false
+}
+
+/// Whether a byte takes its meaning from the next one; if it is itself escaped, it doesn't.
+fn is_escape(escaped: bool, byte: u8) -> bool
+    ensures { result ≡ (not escaped && byte == 92) }
+{
+    !escaped && byte == b'\\'
+}
+
+/// The line and column behind one byte more.
+fn place_behind(place: (usize, usize), byte: u8) -> (usize, usize)
+    requires fits { place.0 + place.1 < 18446744073709551615 }
+    ensures { result ≡ place_behind place byte }
+{
+    if byte == b'\n' {
+        (place.0 + 1, 0)
+    } else {
+        (place.0, place.1 + 1)
     }
 }

@@ -1,3 +1,4 @@
+//! Members of JSON objects by their names.
 ghost use Rattle.std.specs.Prelude.{◌≡◌};
 ghost use Rattle.serde_json.specs.View.{view};
 ghost use Rattle.json_text.specs.Members.{member_of, inner_of, seen};

@@ -1,3 +1,4 @@
+//! From bytes to a JSON value.
 ghost use Rattle.std.specs.Prelude.{◌≡◌, Some, IfOk};
 ghost use Rattle.serde_json.specs.View.{view};
 ghost use Rattle.faults.specs.Answers.{Reports, ChecksFirst};

@@ -6,7 +6,7 @@ use Rattle.std.specs.Prelude.{Option, Some, None, Result, Ok, is_some, ◌==◌}
 use Rattle.std.specs.FinSet as set
 use Rattle.faults.specs.declared.or_memory.OrMemory.{OrMemory}
 use Rattle.cpu_set.specs.Ids.{Ids}
-use Rattle.cpu_set.specs.Pointwise.{contains-insert, contains-remove, is_subset-contains, contains-is_subset}
+use Rattle.cpu_set.specs.PointwiseLaws.{contains-insert, contains-remove, is_subset-contains, contains-is_subset}
 use Rattle.cpuset_tree.specs.declared.Group.{Group}
 use Rattle.cpuset_tree.specs.TreeState.{TreeState}
 use Rattle.cpuset_tree.specs.Groups.{same_group, has_group}

@@ -18,9 +18,6 @@ pub mod Faults
 pub mod KernelState
 pub mod Refusals
 pub mod Cases
-pub mod Fuse
-pub mod Burning
-pub mod FuseLemmas
 pub mod Runs
 pub mod WellFormed
 pub mod Laws

@@ -19,7 +19,7 @@ use Rattle.kernel_model.specs.Faults.{of_tree, of_proc}
 use Rattle.kernel_model.specs.KernelState.{KernelState}
 use Rattle.kernel_model.specs.Refusals.{make_refusal, remove_refusal, write_refusal, spawn_refusal, fork_refusal}
 use Rattle.kernel_model.specs.Laws.{MakeCause, RemoveCause, WriteCause, SpawnCause, EndCause, ForkCause, ExitCause, OfflineCause, OnlineCause, RefusalsHaveCauses, CallsAreFree}
-use Rattle.faults.specs.Tests.{none_above}
+use Rattle.faults.specs.TestLaws.{none_above}
 
 -- a chain of refusals gives none where no test of it holds
 module _ {F : Type 0} where

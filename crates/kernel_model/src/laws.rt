@@ -6,7 +6,6 @@ ghost use Rattle.cpu_set.specs.Ids.{Ids};
 ghost use Rattle.cpuset_tree.specs.Effective.{effective_cpus};
 ghost use Rattle.cpuset_tree.specs.Groups.{requested_cpus};
 ghost use Rattle.kernel_model.specs.Cases.{WritesCpus};
-ghost use Rattle.kernel_model.specs.Fuse.{FusesCountWrites};
 ghost use Rattle.kernel_model.specs.Laws.{EventsKeepGroups, WritesKeepProcesses, WritesKeepTree, WritesLeaveGroups};
 ghost use Rattle.kernel_model.specs.Laws.{CallsLeaveProcesses, WritesCount, CountsEachWrite, CallsAreFree};
 ghost use Rattle.kernel_model.specs.Laws.{RefusalsHaveCauses};
@@ -50,11 +49,6 @@ pub fn names()
     ensures first { FirstHasOwnNames }
     ensures step { StepsKeepNames }
     ensures run { RunsKeepNames }
-{}
-
-/// Each fuse counts writes.
-pub fn fuse()
-    ensures { FusesCountWrites }
 {}
 
 /// Worked rows: what calls of a small kernel answer and change, the definitions evaluated.

@@ -5,8 +5,7 @@
 //!
 //! - Each call of the trait `Kernel` is one case of a written meaning. It says what the call answers, in which order it
 //!   refuses, and what it changes.
-//! - `ModelKernel` and `FusedKernel` meet the trait. No write of the model fails (`never_fails`). The fused kernel
-//!   makes its nth write fail, told by the count of writes, and else answers as the kernel within.
+//! - `ModelKernel` meets the trait, and no write of it fails (`never_fails`).
 //! - Each writing call is counted, whatever it answers, and no other call is (`CountsEachWrite`). The model keeps that
 //!   count as ghost data; nothing of it runs.
 //! - The count binds code that is generic over `Kernel`, such as `apply_plan` and `node`. Such code gets a count one
@@ -19,16 +18,14 @@
 mod call;
 mod count;
 mod fault;
-mod fused_kernel;
-mod interface;
+mod kernel;
 pub mod laws;
 mod model_kernel;
 
-pub use call::{Call, Reply, make_call, make_calls};
+pub use call::{Call, Reply};
 pub use count::WriteCount;
 pub use cpuset_tree::Group;
 pub use fault::KernelFault;
-pub use fused_kernel::{Fuse, FusedKernel};
-pub use interface::{Kernel, requested};
+pub use kernel::{Kernel, requested};
 pub use model_kernel::ModelKernel;
 pub use proctable::LAST_PID;

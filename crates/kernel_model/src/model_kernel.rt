@@ -1,3 +1,4 @@
+//! The kernel in memory, of which no write fails.
 ghost use Rattle.std.specs.Prelude.{◌≡◌, ◌≢◌, ◌≤◌, true, false, Some, None, IfOk, MatchOption, MatchResult};
 ghost use Rattle.std.specs.FinSet as set;
 ghost use Rattle.cpu_set.specs.Members.{IsCpu};
@@ -5,7 +6,7 @@ ghost use Rattle.proctable.specs.declared.TheConstants.{LAST_PID};
 ghost use Rattle.cpuset_tree.specs.Places.{place_of, place_behind};
 ghost use Rattle.kernel_model.specs.KernelState.{IsFirstKernel};
 ghost use Rattle.kernel_model.specs.Cases.{MakesGroup, RemovesGroup, WritesCpus, WritesMems, EndsGroup};
-ghost use Rattle.kernel_model.specs.Refusals.{make_refusal, remove_refusal};
+ghost use Rattle.kernel_model.specs.Refusals.{remove_refusal};
 
 use crate::count::WriteCount;
 use crate::fault::{of_proc, of_tree};
@@ -82,17 +83,6 @@ impl ModelKernel {
             reserved,
             writes: WriteCount::none(),
         })
-    }
-
-    /// Whether a group can be made, or why not.
-    ///
-    /// # Errors
-    /// In this order: `NoGroup`, `Exists`, `NoSerials`.
-    pub fn makable(&self, parent: Group, name: &str) -> Result<(), KernelFault>
-        ensures { MatchResult result (λ _. make_refusal self.now parent name.now ≡ None)
-            (λ fault. make_refusal self.now parent name.now ≡ Some fault) }
-    {
-        Ok(self.tree.makable(parent, name)?)
     }
 
     /// Whether a group can be removed, or why not.
@@ -202,6 +192,14 @@ impl Kernel for ModelKernel {
 
     fn find_group(&self, parent: Group, name: &str) -> Result<Option<Group>, KernelFault> {
         Ok(self.tree.find(parent, name)?)
+    }
+
+    fn makable(&self, parent: Group, name: &str) -> Result<(), KernelFault> {
+        Ok(self.tree.makable(parent, name)?)
+    }
+
+    fn has_pids(&self) -> bool {
+        self.table.has_pids()
     }
 
     fn requested_cpus(&self, group: Group) -> Result<&IdSet, KernelFault> {

@@ -9,17 +9,17 @@ use Rattle.std.proofs.lemmas.List.FromFn.{get_or-map-range_with_len, length-map-
 use Rattle.std.specs.Ordering.{nat_cmp}
 use Rattle.std.specs.Cmp.{nat_cmp_total}
 use Rattle.std.specs.FinSet as set
-use Rattle.faults.specs.Tests.{without, none_below, none_of_both, unmapped, passed, same_tests}
+use Rattle.faults.specs.TestLaws.{without, none_below, none_of_both, unmapped, passed, same_tests}
 use Rattle.serde_json.specs.Data.{Data}
 use Rattle.cpu_set.specs.Ids.{Ids, IsDisjoint, is_empty}
 use Rattle.cpu_set.specs.Least.{least_that, least_of}
 use Rattle.cpu_set.specs.LeastLaws.{NonePasses, IsLeastThat, least-passes, least-none_says, cpus_from}
 use Rattle.cpu_set.specs.Members.{IsCpu, InRange, cpus}
-use Rattle.cpu_set.specs.Pointwise.{same_members, contains-empty, contains-insert, contains-difference, contains-intersection, is_subset-contains}
+use Rattle.cpu_set.specs.PointwiseLaws.{same_members, contains-empty, contains-insert, contains-difference, contains-intersection, is_subset-contains}
 use Rattle.cpu_set.specs.declared.TheConstants.{CPU_LIMIT}
 use Rattle.machine.specs.Cores.{core_of, cpus_of_core, AreCores}
 use Rattle.machine.specs.CoresFault.{lowest_in, lowest_of, size_of, is_core, core_fault, left_by, first_core_fault, left_fault, cores_fault}
-use Rattle.machine.specs.Listed.{listed}
+use Rattle.machine.specs.Listed.{cpus_named}
 use Rattle.machine.specs.Members.{items_of, items_in}
 use Rattle.machine.specs.Layout.{Layout}
 use Rattle.machine.specs.Present.{union_of, present, IsPresent}
@@ -359,11 +359,11 @@ none_left nodes cores in_range none c has =
 -- cores that are read without fault, or that are not there
 pub AreCores-read :
     (m : Layout) (found : Option Data) → InRange (union_of m.nodes) → AllPairs IsDisjoint m.nodes → cores_fault m.nodes m.reserved found ≡ None
-    → m.lowest ≡ lowest_of (map listed (items_in found)) → m.threads ≡ size_of (map listed (items_in found)) → AreCores m
+    → m.lowest ≡ lowest_of (map cpus_named (items_in found)) → m.threads ≡ size_of (map cpus_named (items_in found)) → AreCores m
 unfolding cores_fault
 AreCores-read m None in_range apart none is threads = AreCores-none m is threads
 AreCores-read m (Some d) in_range apart none is threads =
-    let cores = map listed (items_of d) in
+    let cores = map cpus_named (items_of d) in
     let p = none_of_both _ _ (none_of_both _ _ (none_of_both _ _ none).1).1 in
     AreCores-listed m cores
     (AreListed-no_fault m.nodes m.reserved cores in_range apart p.0 (none_left m.nodes cores in_range (none_of_both _ _ p.1).0)) is threads

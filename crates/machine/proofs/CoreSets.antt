@@ -6,7 +6,7 @@ use Rattle.std.proofs.lemmas.Bool.Decides.{nat_tests}
 use Rattle.std.specs.FinSet as set
 use Rattle.cpu_set.specs.Ids.{Ids}
 use Rattle.cpu_set.specs.Members.{IsCpu, InRange}
-use Rattle.cpu_set.specs.Pointwise.{same_members, contains-empty, contains-insert, is_subset-contains, contains-is_subset}
+use Rattle.cpu_set.specs.PointwiseLaws.{same_members, contains-empty, contains-insert, is_subset-contains, contains-is_subset}
 use Rattle.cpu_set.specs.declared.TheConstants.{CPU_LIMIT}
 use Rattle.machine.specs.Cores.{core_of, cpus_of_core, is_core_in, cores_in, cpus_of_cores, AreCores}
 use Rattle.machine.specs.Index.{IsFirstOf}

@@ -12,17 +12,17 @@ use Rattle.serde_json.specs.View.{view}
 use Rattle.serde_json.specs.declared.value.Value.{Value}
 use Rattle.cpu_set.specs.Ids.{Ids}
 use Rattle.cpu_set.specs.LeastLaws.{IsFirstOf, least-difference}
-use Rattle.cpu_set.specs.Pointwise.{same_members, contains-empty, contains-union, contains-difference}
+use Rattle.cpu_set.specs.PointwiseLaws.{same_members, contains-empty, contains-union, contains-difference}
 use Rattle.cpu_set.specs.declared.TheConstants.{CPU_LIMIT}
 use Rattle.machine.specs.declared.fault.MachineFault.{MachineFault}
 use Rattle.machine.specs.declared.fault.MachineFault.TheVariants.{BadCore, NoCore}
 use Rattle.cpu_set.specs.Least.{least_of}
 use Rattle.machine.specs.CoresFault.{lowest_in, lowest_of, size_of, is_core, core_fault, left_by, first_core_fault, left_fault}
-use Rattle.machine.specs.Listed.{listed}
+use Rattle.machine.specs.Listed.{cpus_named}
 use Rattle.machine.specs.Present.{union_of}
 use Rattle.machine.proofs.CoreLaws.{lowest_of-at, lowest_of-long, lowest_in-none}
 use Rattle.machine.proofs.SubsetLaws.{is_subset-difference}
-use Rattle.faults.specs.Tests.{without_two, without_none}
+use Rattle.faults.specs.TestLaws.{without_two, without_none}
 
 -- the fault of core i, after the cores before it
 abbrev pub fault_at : List Ids → Ids → List Ids → ℕ → Option MachineFault
@@ -137,14 +137,14 @@ left_fault-first nodes cores left first is first_is =
     ap (option_map NoCore) (least-difference (union_of nodes) (union_of cores) first (rw is at first_is))
 
 -- the CPUs of an item are those of the list of cores
-pub listed_at : (vs : List Value) (i : ℕ) → i < length (map view vs) → listed (get_or (map view vs) i null) ≡ get_or (map listed (map view vs)) i set.empty
-listed_at vs i lt = sym (get_or-map listed (map view vs) i null set.empty lt)
+pub listed_at : (vs : List Value) (i : ℕ) → i < length (map view vs) → cpus_named (get_or (map view vs) i null) ≡ get_or (map cpus_named (map view vs)) i set.empty
+listed_at vs i lt = sym (get_or-map cpus_named (map view vs) i null set.empty lt)
 
-pub listed_within : (ds : List Data) (i : ℕ) → i < length ds → i < length (map listed ds)
+pub listed_within : (ds : List Data) (i : ℕ) → i < length ds → i < length (map cpus_named ds)
 listed_within ds i lt = simp length-map lt
 
-pub listed_last : (ds : List Data) (i : ℕ) → i ≡ length ds → i ≡ length (map listed ds)
-listed_last ds i is = is ∙ sym (length-map ds listed)
+pub listed_last : (ds : List Data) (i : ℕ) → i ≡ length ds → i ≡ length (map cpus_named ds)
+listed_last ds i is = is ∙ sym (length-map ds cpus_named)
 
 -- numbers at their own places are the lowest CPUs of no cores
 pub all_own : (lowest : List ℕ) → length lowest ≡ CPU_LIMIT → ((c : ℕ) → c < CPU_LIMIT → get_or lowest c 0 ≡ c) → lowest ≡ lowest_of []

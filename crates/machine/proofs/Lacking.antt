@@ -4,12 +4,12 @@ use Rattle.std.specs.Prelude.{◌||◌, ◌==◌, IfSome}
 use Rattle.std.proofs.lemmas.Bool.{cases_lt, cases_eq, true≢false, ne_eqb, and_from, and_parts, and_left, and_right, or_left, lt-ltb, eq-eqb, eqb-true, not-true, true_from_ne_false}
 use Rattle.std.proofs.lemmas.Bool.Decides.{nat_tests}
 use Rattle.std.specs.FinSet as set
-use Rattle.faults.specs.Tests.{same_tests}
+use Rattle.faults.specs.TestLaws.{same_tests}
 use Rattle.cpu_set.specs.Ids.{Ids}
 use Rattle.cpu_set.specs.Members.{IsCpu, InRange}
-use Rattle.cpu_set.specs.Pointwise.{same_members, contains-empty, contains-remove, contains-union, contains-intersection, contains-difference, is_subset-contains, contains-is_subset}
+use Rattle.cpu_set.specs.PointwiseLaws.{same_members, contains-empty, contains-remove, contains-union, contains-intersection, contains-difference, is_subset-contains, contains-is_subset}
 use Rattle.cpu_set.specs.declared.TheConstants.{CPU_LIMIT}
-use Rattle.machine.specs.CoreCounts.{below_more}
+use Rattle.machine.specs.CoreCountLaws.{below_more}
 use Rattle.machine.specs.Cores.{core_of, cpus_of_core, is_core_in, cores_in, cpus_of_cores, AreCores}
 use Rattle.machine.specs.Index.{IsFirstOf, AreFirsts}
 use Rattle.machine.specs.Layout.{Layout}

@@ -10,16 +10,16 @@ use Rattle.std.proofs.lemmas.List.Folds.{list_any_at}
 use Rattle.std.specs.FinSet as set
 use Rattle.faults.specs.First.{when}
 use Rattle.faults.specs.FirstLaws.{first_below-none}
-use Rattle.faults.specs.Tests.{never_both}
+use Rattle.faults.specs.TestLaws.{never_both}
 use Rattle.serde_json.specs.Data.{Data, null}
 use Rattle.serde_json.specs.Find.{as_array, as_str}
 use Rattle.cpu_set.specs.Ids.{Ids, IsDisjoint}
 use Rattle.cpu_set.specs.Least.{least_that}
 use Rattle.cpu_set.specs.LeastLaws.{least-none, least-none_says, least-some_says}
 use Rattle.cpu_set.specs.Members.{InRange}
-use Rattle.cpu_set.specs.Pointwise.{contains-difference, contains-intersection, contains-is_subset}
+use Rattle.cpu_set.specs.PointwiseLaws.{contains-difference, contains-intersection, contains-is_subset}
 use Rattle.cpu_set.specs.SetLaws.{empty_of_none, is_empty-some}
-use Rattle.cpu_set.specs.Those.{contains-those}
+use Rattle.cpu_set.specs.ThoseLemmas.{contains-those}
 use Rattle.cpu_set.specs.declared.TheConstants.{CPU_LIMIT}
 use Rattle.cpu_list.specs.ListText.{names}
 use Rattle.slit.specs.AreDistances.{IsEntry}
@@ -32,12 +32,12 @@ use Rattle.machine.specs.declared.field.Field.TheVariants.{Nodes, Reserved, Offl
 use Rattle.machine.specs.Cores.{core_of}
 use Rattle.machine.specs.CoresFault.{lowest_of, size_of, is_core, left_by, core_fault, first_core_fault, left_fault, cores_fault}
 use Rattle.machine.specs.Distances.{row_entries, distances_in, AreEntries}
-use Rattle.machine.specs.DistancesFault.{entry_fault, row_fault, rows_fault, shape_fault, distances_fault}
+use Rattle.machine.specs.DistancesFault.{entry_fault, distance_row_fault, rows_fault, shape_fault, distances_fault}
 use Rattle.machine.specs.HasMembers.{IsSquare, HasDistances, HasMembers, AreSharedOut, HasCores}
 use Rattle.machine.specs.IsSound.{IsSound}
 use Rattle.machine.specs.KindFaults.{list_fault}
 use Rattle.machine.specs.Layout.{Layout}
-use Rattle.machine.specs.Listed.{set_of, is_list, listed, listed_in}
+use Rattle.machine.specs.Listed.{set_of, is_list, cpus_named, listed_in}
 use Rattle.machine.specs.MachineOf.{said_by, value_fault, machine_of}
 use Rattle.machine.specs.Members.{nodes_member, distances_member, reserved_member, offline_member, cores_member, items_of, items_in}
 use Rattle.machine.specs.Nodes.{IsOfNode}
@@ -73,15 +73,15 @@ later_apart sets k apart lt n in_k in_earlier =
     (ap (λ s. set.contains s n) (sym (get_or-take k sets found.0 set.empty before)) ∙ found.2) in_k
 
 node_apart :
-    (ds : List Data) (k : ℕ) → AllPairs IsDisjoint (map listed ds) → k < length ds
-    → IsDisjoint (listed (get_or ds k null)) (union_of (map listed (take k ds)))
+    (ds : List Data) (k : ℕ) → AllPairs IsDisjoint (map cpus_named ds) → k < length ds
+    → IsDisjoint (cpus_named (get_or ds k null)) (union_of (map cpus_named (take k ds)))
 node_apart ds k apart lt n in_k in_earlier =
-    later_apart (map listed ds) k apart (simp length-map lt) n
-    (ap (λ s. set.contains s n) (get_or-map listed ds k null set.empty lt) ∙ in_k)
-    (ap (λ s. set.contains (union_of s) n) (take-map listed k ds) ∙ in_earlier)
+    later_apart (map cpus_named ds) k apart (simp length-map lt) n
+    (ap (λ s. set.contains s n) (get_or-map cpus_named ds k null set.empty lt) ∙ in_k)
+    (ap (λ s. set.contains (union_of s) n) (take-map cpus_named k ds) ∙ in_earlier)
 
 first_node_fault-none :
-    (ds : List Data) → ((k : ℕ) → k < length ds → is_list (get_or ds k null) ≡ true) → AllPairs IsDisjoint (map listed ds)
+    (ds : List Data) → ((k : ℕ) → k < length ds → is_list (get_or ds k null) ≡ true) → AllPairs IsDisjoint (map cpus_named ds)
     → first_node_fault ds ≡ None
 unfolding first_node_fault node_fault
 first_node_fault-none ds lists apart =
@@ -93,7 +93,7 @@ in_range n limit some few = grind (arith, nat_tests)
 
 nodes_fault-none :
     (ds : List Data) → ((k : ℕ) → k < length ds → is_list (get_or ds k null) ≡ true)
-    → 1 ≤ length ds → length ds ≤ NODE_LIMIT → AllPairs IsDisjoint (map listed ds) → nodes_fault ds ≡ None
+    → 1 ≤ length ds → length ds ≤ NODE_LIMIT → AllPairs IsDisjoint (map cpus_named ds) → nodes_fault ds ≡ None
 unfolding nodes_fault
 nodes_fault-none ds lists some few apart =
     rw (in_range (length ds) NODE_LIMIT some few, first_node_fault-none ds lists apart) refl
@@ -120,7 +120,7 @@ columns :
 columns n d h k lt = let is_row : k < n = omega (arith, h.rows) in h.columns k is_row
 
 rows_fault-none : (n : ℕ) (d : Data) → IsSquare n d → AreEntries n (flat_map row_entries (items_of d)) → rows_fault (items_of d) ≡ None
-unfolding rows_fault row_fault
+unfolding rows_fault distance_row_fault
 rows_fault-none n d h are =
     let each : (k : ℕ) → k < length (items_of d) → length (items_of (get_or (items_of d) k null)) ≡ n = columns n d h in
     first_below-none _ _ (λ i lt. first_below-none _ _ (λ j long.
@@ -155,14 +155,14 @@ offline_fault-none found all reserved lists within = rw (optional_fault-none fou
 
 -- ---- cores
 
-all_listed : (items : List Data) → InRange (union_of (map listed items))
+all_listed : (items : List Data) → InRange (union_of (map cpus_named items))
 unfolding set_of
 all_listed items c has =
-    let found = found_in (map listed items) c has in
-    let lt : found.0 < length items = omega (arith, found.1, length-map items listed) in
+    let found = found_in (map cpus_named items) c has in
+    let lt : found.0 < length items = omega (arith, found.1, length-map items cpus_named) in
     let d = get_or items found.0 null in
-    let in_listed : set.contains (listed d) c ≡ true =
-    ap (λ s. set.contains s c) (sym (get_or-map listed items found.0 null set.empty lt)) ∙ found.2 in
+    let in_listed : set.contains (cpus_named d) c ≡ true =
+    ap (λ s. set.contains s c) (sym (get_or-map cpus_named items found.0 null set.empty lt)) ∙ found.2 in
     below_of c CPU_LIMIT _ (sym (contains-those (names (unwrap_or (as_str d) [])) CPU_LIMIT c) ∙ in_listed)
   where
     below_of : (c n : ℕ) (b : Bool) → (nat_lt c n && b) ≡ true → c < n
@@ -239,12 +239,12 @@ and_not_itself false b e = refl
 
 cores_fault-none :
     (m : Layout) (found : Option Data) → IsSound m → InRange (present m) → ((c : Data) → found ≡ Some c → HasCores (present m) c)
-    → m.lowest ≡ lowest_of (map listed (items_in found)) → m.threads ≡ size_of (map listed (items_in found)) → cores_fault m.nodes m.reserved found ≡ None
+    → m.lowest ≡ lowest_of (map cpus_named (items_in found)) → m.threads ≡ size_of (map cpus_named (items_in found)) → cores_fault m.nodes m.reserved found ≡ None
 unfolding cores_fault first_core_fault core_fault left_fault
 cores_fault-none m None sound in_range has is threads = refl
 cores_fault-none m (Some d) sound in_range has is threads =
     let h = has d refl in
-    let cores = map listed (items_of d) in
+    let cores = map cpus_named (items_of d) in
     let shared = shared_out m.nodes cores in_range h.shared_out in
     let each = first_below-none (length cores) _ (λ k lt. ap (λ b. when (not b) (BadCore k)) (core_fault-none m cores k sound shared is threads lt (h.shared_out.some k lt))) in
     let left = ap (option_map NoCore) (least-none (λ q. set.contains (union_of m.nodes) q && not (set.contains (union_of cores) q)) (λ q is_cpu. and_not_itself _ _ (ap (λ s. set.contains s q) (sym h.shared_out.all)))) in
@@ -254,7 +254,7 @@ cores_fault-none m (Some d) sound in_range has is threads =
 pub value_fault-none : (slit : Option Table) (d : Data) → HasMembers slit d → IsSound (said_by slit d) → value_fault slit d ≡ None
 value_fault-none slit d h sound =
     let items = items_in (nodes_member d) in
-    let count : length (map listed items) ≡ length items = length-map items listed in
+    let count : length (map cpus_named items) ≡ length items = length-map items cpus_named in
     let nodes = nodes_fault-none items h.lists (omega (arith, count, sound.some)) (omega (arith, count, sound.few)) sound.apart in
     let distances = distances_fault-none slit (distances_member d) (length items) h.distances (rw count at sound.distances) in
     let reserved = reserved_fault-none (reserved_member d) (listed_in (reserved_member d)) (present (said_by slit d))

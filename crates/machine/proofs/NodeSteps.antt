@@ -14,20 +14,20 @@ use Rattle.cpu_set.specs.Ids.{Ids, IsDisjoint}
 use Rattle.machine.specs.declared.fault.MachineFault.{MachineFault}
 use Rattle.machine.specs.declared.field.Field.TheVariants.{Nodes}
 use Rattle.machine.specs.KindFaults.{list_fault, AreLists}
-use Rattle.machine.specs.Listed.{listed}
+use Rattle.machine.specs.Listed.{cpus_named}
 use Rattle.machine.specs.NodesFault.{twice_fault, node_fault, first_node_fault}
 use Rattle.machine.specs.Present.{union_of}
 use Rattle.machine.specs.NodeLaws.{apart_from_each}
 
 -- the fault of node i, after the nodes before it
 abbrev pub fault_at : List Data → ℕ → Option MachineFault
-fault_at ds i = node_fault (union_of (map listed (take i ds))) (get_or ds i null)
+fault_at ds i = node_fault (union_of (map cpus_named (take i ds))) (get_or ds i null)
 
 -- the nodes below i are without fault, and these are their CPUs
 pub record AreUnited (ds : List Data) (i : ℕ) (all : Ids) : Type 0 where
   pub none : (k : ℕ) → k < i → fault_at ds k ≡ None
-  pub union : all ≡ union_of (map listed (take i ds))
-  pub apart : AllPairs IsDisjoint (map listed (take i ds))
+  pub union : all ≡ union_of (map cpus_named (take i ds))
+  pub apart : AllPairs IsDisjoint (map cpus_named (take i ds))
 
 pub AreUnited-none : (ds : List Data) (all : Ids) → all ≡ set.empty → AreUnited ds 0 all
 AreUnited-none ds all none = record {
@@ -41,18 +41,18 @@ here ds i all united = ap (λ e. node_fault e (get_or ds i null)) (sym united.un
 
 pub AreUnited-more :
     (ds : List Data) (i : ℕ) (all s : Ids) → AreUnited ds i all → i < length ds
-    → node_fault all (get_or ds i null) ≡ None → s ≡ listed (get_or ds i null) → IsDisjoint all s
+    → node_fault all (get_or ds i null) ≡ None → s ≡ cpus_named (get_or ds i null) → IsDisjoint all s
     → AreUnited ds (i + 1) (set.union all s)
 AreUnited-more ds i all s united lt none is apart =
-    let more : map listed (take (i + 1) ds) ≡ map listed (take i ds) ++ s ∷ [] = rw (take_more ds i null lt, map-append, is) refl in
+    let more : map cpus_named (take (i + 1) ds) ≡ map cpus_named (take i ds) ++ s ∷ [] = rw (take_more ds i null lt, map-append, is) refl in
     record {
       none = λ k below. elim (cases_lt k i) [
         | inl before ↦ united.none k before
         | inr last ↦ let same : k ≡ i = omega arith in rw same (here ds i all united ∙ none)
       ];
       union = rw (more, fold_push, united.union) refl;
-      apart = rw more (all_pairs_push IsDisjoint (map listed (take i ds)) s united.apart
-          (apart_from_each (map listed (take i ds)) s (rw (← united.union) apart)));
+      apart = rw more (all_pairs_push IsDisjoint (map cpus_named (take i ds)) s united.apart
+          (apart_from_each (map cpus_named (take i ds)) s (rw (← united.union) apart)));
     }
 
 pub AreUnited-fault :
@@ -68,13 +68,13 @@ is_list_where_none earlier d none = by_list (list_fault Nodes d) refl
   where
     by_list : (f : Option MachineFault) → list_fault Nodes d ≡ f → list_fault Nodes d ≡ None
     by_list None is = is
-    by_list (Some e) is = absurd (none-some e (sym none ∙ ap (λ f. first_of (f ∷ twice_fault earlier (listed d) ∷ [])) is))
+    by_list (Some e) is = absurd (none-some e (sym none ∙ ap (λ f. first_of (f ∷ twice_fault earlier (cpus_named d) ∷ [])) is))
 
 -- what holds once all nodes are read
 pub record AreNodes (ds : List Data) (all : Ids) : Type 0 where
   pub none : first_node_fault ds ≡ None
-  pub union : all ≡ union_of (map listed ds)
-  pub apart : AllPairs IsDisjoint (map listed ds)
+  pub union : all ≡ union_of (map cpus_named ds)
+  pub apart : AllPairs IsDisjoint (map cpus_named ds)
   pub lists : AreLists Nodes ds
 
 pub AreUnited-all : (ds : List Data) (i : ℕ) (all : Ids) → AreUnited ds i all → i ≡ length ds → AreNodes ds all
@@ -83,16 +83,16 @@ AreUnited-all ds i all united end =
     let whole : take i ds ≡ ds = take_all i ds (omega arith) in
     record {
       none = first_below-none (length ds) (fault_at ds) (λ k lt. united.none k (omega arith));
-      union = united.union ∙ ap (λ l. union_of (map listed l)) whole;
-      apart = subst (λ l. AllPairs IsDisjoint (map listed l)) whole united.apart;
+      union = united.union ∙ ap (λ l. union_of (map cpus_named l)) whole;
+      apart = subst (λ l. AllPairs IsDisjoint (map cpus_named l)) whole united.apart;
       lists = λ k lt. is_list_where_none _ _ (united.none k (omega arith));
     }
 
 -- the sets of the items below i, and of one item more
 pub are_read_more :
-    (ds : List Data) (i : ℕ) (sets : List Ids) (s : Ids) → sets ≡ map listed (take i ds) → i < length ds → s ≡ listed (get_or ds i null)
-    → sets ++ s ∷ [] ≡ map listed (take (i + 1) ds)
+    (ds : List Data) (i : ℕ) (sets : List Ids) (s : Ids) → sets ≡ map cpus_named (take i ds) → i < length ds → s ≡ cpus_named (get_or ds i null)
+    → sets ++ s ∷ [] ≡ map cpus_named (take (i + 1) ds)
 are_read_more ds i sets s read lt is = rw (take_more ds i null lt, map-append, read, is) refl
 
-pub are_read_all : (ds : List Data) (i : ℕ) (sets : List Ids) → sets ≡ map listed (take i ds) → i ≡ length ds → sets ≡ map listed ds
-are_read_all ds i sets read end = read ∙ ap (map listed) (take_all i ds (omega arith))
+pub are_read_all : (ds : List Data) (i : ℕ) (sets : List Ids) → sets ≡ map cpus_named (take i ds) → i ≡ length ds → sets ≡ map cpus_named ds
+are_read_all ds i sets read end = read ∙ ap (map cpus_named) (take_all i ds (omega arith))

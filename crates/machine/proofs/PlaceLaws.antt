@@ -10,7 +10,7 @@ use Rattle.std.specs.Ordering.{nat_cmp}
 use Rattle.cpu_set.specs.Ids.{Ids, is_empty, NoneFrom, IsFirstFrom}
 use Rattle.cpu_set.specs.LeastLaws.{least-first}
 use Rattle.cpu_set.specs.Members.{IsCpu}
-use Rattle.cpu_set.specs.Pointwise.{contains-empty, is_subset-contains, contains-is_subset}
+use Rattle.cpu_set.specs.PointwiseLaws.{contains-empty, is_subset-contains, contains-is_subset}
 use Rattle.cpu_set.specs.SetLaws.{empty_of_none, is_empty-some}
 use Rattle.machine.proofs.CoreLaws.{left_and, one_of_two}
 use Rattle.cpu_set.specs.Least.{least_of}

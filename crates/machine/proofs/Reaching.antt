@@ -6,7 +6,7 @@ use Rattle.std.proofs.lemmas.List.{length-set, length-replicate, get_or-replicat
 use Rattle.std.proofs.Math.ListN.{set as set_at}
 use Rattle.std.specs.FinSet as set
 use Rattle.cpu_set.specs.Ids.{Ids}
-use Rattle.cpu_set.specs.Pointwise.{contains-difference, is_subset-contains}
+use Rattle.cpu_set.specs.PointwiseLaws.{contains-difference, is_subset-contains}
 use Rattle.machine.specs.declared.TheConstants.{NODE_LIMIT}
 use Rattle.machine.specs.IsSound.{IsSound}
 use Rattle.machine.specs.Layout.{Layout, node_count, cpus_of, distance}
@@ -198,9 +198,9 @@ cut : (p : Bool) (w k n : ℕ) → (p ≡ true → k ≡ n → 255 ≤ w)
 cut false w k n far = refl
 cut true w k n far = let away : k ≡ n → 255 ≤ w = far refl in grind (arith, nat_tests)
 
-kept : (p : Bool) (w k n : ℕ) → (p ≡ true → k ≡ n → w < 255) → (p && (nat_lt w 255 || nat_le n k)) ≡ (p && (nat_lt w 255 || nat_le (n + 1) k))
-kept false w k n near = refl
-kept true w k n near = let way : k ≡ n → w < 255 = near refl in grind (arith, nat_tests)
+near_kept : (p : Bool) (w k n : ℕ) → (p ≡ true → k ≡ n → w < 255) → (p && (nat_lt w 255 || nat_le n k)) ≡ (p && (nat_lt w 255 || nat_le (n + 1) k))
+near_kept false w k n near = refl
+near_kept true w k n near = let way : k ≡ n → w < 255 = near refl in grind (arith, nat_tests)
 
 -- a node without a way
 pub AreReached-cut :
@@ -221,7 +221,7 @@ pub AreReached-kept :
     → get_or weights n 255 < 255 → AreReached m homes reach (n + 1)
 AreReached-kept m homes reach weights n are reached near c =
     reached c
-    ∙ kept (set.contains (present m) c) (weight m homes c) (node_of m c) n (λ there same.
+    ∙ near_kept (set.contains (present m) c) (weight m homes c) (node_of m c) n (λ there same.
     let weighs : get_or weights (node_of m c) 255 ≡ weight m homes c = are.each c there in
     let at : get_or weights (node_of m c) 255 ≡ get_or weights n 255 = ap (λ k. get_or weights k 255) same in omega arith)
 

@@ -18,8 +18,8 @@ use Rattle.machine.specs.declared.fault.MachineFault.{MachineFault}
 use Rattle.machine.specs.declared.TheConstants.{NODE_LIMIT}
 use Rattle.machine.specs.declared.table.TheConstants.{ENTRY_LIMIT}
 use Rattle.json_text.specs.Numbers.{unsigned_of}
-use Rattle.machine.specs.Distances.{entry_of, row_entries, AreEntries, IsRowAllowed, AreRowsAllowed}
-use Rattle.machine.specs.DistancesFault.{entry_fault, row_fault, rows_fault}
+use Rattle.machine.specs.Distances.{said_distance, row_entries, AreEntries, IsRowAllowed, AreRowsAllowed}
+use Rattle.machine.specs.DistancesFault.{entry_fault, distance_row_fault, rows_fault}
 use Rattle.machine.specs.Members.{items_of}
 
 -- the fault of the entry in column j of row i
@@ -29,8 +29,8 @@ cell_fault i ds j = entry_fault i j (unsigned_of (get_or ds j null))
 -- the entries of row i before column j are without fault, and added to what was there
 pub record AreCellsRead (i : ℕ) (ds : List Data) (j : ℕ) (old new : List ℕ) : Type 0 where
   pub none : (k : ℕ) → k < j → cell_fault i ds k ≡ None
-  pub allowed : (k : ℕ) → k < j → IsEntry i k (entry_of (get_or ds k null))
-  pub added : new ≡ old ++ map entry_of (take j ds)
+  pub allowed : (k : ℕ) → k < j → IsEntry i k (said_distance (get_or ds k null))
+  pub added : new ≡ old ++ map said_distance (take j ds)
 
 pub AreCellsRead-none : (i : ℕ) (ds : List Data) (old : List ℕ) → AreCellsRead i ds 0 old old
 AreCellsRead-none i ds old = record {
@@ -41,7 +41,7 @@ AreCellsRead-none i ds old = record {
 
 pub AreCellsRead-more :
     (i : ℕ) (ds : List Data) (j : ℕ) (old new more : List ℕ) (d : ℕ) → AreCellsRead i ds j old new → j < length ds
-    → cell_fault i ds j ≡ None → d ≡ entry_of (get_or ds j null) → IsEntry i j d → more ≡ new ++ d ∷ []
+    → cell_fault i ds j ≡ None → d ≡ said_distance (get_or ds j null) → IsEntry i j d → more ≡ new ++ d ∷ []
     → AreCellsRead i ds (j + 1) old more
 AreCellsRead-more i ds j old new more d read lt none is allowed pushed = record {
   none = λ k below. elim (cases_lt k j) [
@@ -57,27 +57,27 @@ AreCellsRead-more i ds j old new more d read lt none is allowed pushed = record 
 
 pub AreCellsRead-fault :
     (i : ℕ) (ds : List Data) (j : ℕ) (old new : List ℕ) (e : MachineFault) → AreCellsRead i ds j old new → j < length ds
-    → cell_fault i ds j ≡ Some e → row_fault i ds ≡ Some e
-unfolding row_fault
+    → cell_fault i ds j ≡ Some e → distance_row_fault i ds ≡ Some e
+unfolding distance_row_fault
 AreCellsRead-fault i ds j old new e read lt at = first_below-at (length ds) j (cell_fault i ds) e lt read.none at
 
 pub record IsRowRead (i : ℕ) (ds : List Data) (old new : List ℕ) : Type 0 where
-  pub none : row_fault i ds ≡ None
+  pub none : distance_row_fault i ds ≡ None
   pub allowed : IsRowAllowed i ds
-  pub added : new ≡ old ++ map entry_of ds
+  pub added : new ≡ old ++ map said_distance ds
 
 pub AreCellsRead-all :
     (i : ℕ) (ds : List Data) (j : ℕ) (old new : List ℕ) → AreCellsRead i ds j old new → j ≡ length ds → IsRowRead i ds old new
-unfolding row_fault
+unfolding distance_row_fault
 AreCellsRead-all i ds j old new read all = record {
   none = first_below-none (length ds) (cell_fault i ds) (λ k lt. read.none k (omega arith));
   allowed = λ k lt. read.allowed k (omega arith);
-  added = read.added ∙ ap (λ front. old ++ map entry_of front) (take_all j ds (omega arith));
+  added = read.added ∙ ap (λ front. old ++ map said_distance front) (take_all j ds (omega arith));
 }
 
 -- the rows before row i are without fault, and their entries read
 pub record AreRowsRead (ds : List Data) (i : ℕ) (entries : List ℕ) : Type 0 where
-  pub none : (k : ℕ) → k < i → row_fault k (items_of (get_or ds k null)) ≡ None
+  pub none : (k : ℕ) → k < i → distance_row_fault k (items_of (get_or ds k null)) ≡ None
   pub allowed : (k : ℕ) → k < i → IsRowAllowed k (items_of (get_or ds k null))
   pub read : entries ≡ flat_map row_entries (take i ds)
 
@@ -90,7 +90,7 @@ AreRowsRead-none ds entries is = record {
 
 pub AreRowsRead-more :
     (ds : List Data) (i : ℕ) (entries more : List ℕ) → AreRowsRead ds i entries → i < length ds
-    → row_fault i (items_of (get_or ds i null)) ≡ None → IsRowAllowed i (items_of (get_or ds i null))
+    → distance_row_fault i (items_of (get_or ds i null)) ≡ None → IsRowAllowed i (items_of (get_or ds i null))
     → more ≡ entries ++ row_entries (get_or ds i null) → AreRowsRead ds (i + 1) more
 AreRowsRead-more ds i entries more rows lt none allowed added = record {
   none = λ k below. elim (cases_lt k i) [
@@ -107,17 +107,17 @@ AreRowsRead-more ds i entries more rows lt none allowed added = record {
 
 pub AreRowsRead-fault :
     (ds : List Data) (i : ℕ) (entries : List ℕ) (e : MachineFault) → AreRowsRead ds i entries → i < length ds
-    → row_fault i (items_of (get_or ds i null)) ≡ Some e → rows_fault ds ≡ Some e
+    → distance_row_fault i (items_of (get_or ds i null)) ≡ Some e → rows_fault ds ≡ Some e
 unfolding rows_fault
 AreRowsRead-fault ds i entries e rows lt at =
-    first_below-at (length ds) i (λ k. row_fault k (items_of (get_or ds k null))) e lt rows.none at
+    first_below-at (length ds) i (λ k. distance_row_fault k (items_of (get_or ds k null))) e lt rows.none at
 
 pub AreRowsRead-all :
     (ds : List Data) (i : ℕ) (entries : List ℕ) → AreRowsRead ds i entries → i ≡ length ds
     → (rows_fault ds ≡ None) × (entries ≡ flat_map row_entries ds) × AreRowsAllowed ds
 unfolding rows_fault
 AreRowsRead-all ds i entries rows all = (
-  first_below-none (length ds) (λ k. row_fault k (items_of (get_or ds k null))) (λ k lt. rows.none k (omega arith)),
+  first_below-none (length ds) (λ k. distance_row_fault k (items_of (get_or ds k null))) (λ k lt. rows.none k (omega arith)),
   rows.read ∙ ap (flat_map row_entries) (take_all i ds (omega arith)),
   λ k lt. rows.allowed k (omega arith),
 )
@@ -129,7 +129,7 @@ rows_before :
 rows_before ds n zero each within = grind (arith, common_steps)
 rows_before ds n (suc i) each within =
     let lt : i < length ds = omega arith in
-    let one : length (row_entries (get_or ds i null)) ≡ n = length-map (items_of (get_or ds i null)) entry_of ∙ each i lt in
+    let one : length (row_entries (get_or ds i null)) ≡ n = length-map (items_of (get_or ds i null)) said_distance ∙ each i lt in
     let so_far = rows_before ds n i each (omega arith) in
     ap (λ front. length (flat_map row_entries front)) (take-suc ds i null lt)
     ∙ ap length (sym (flat_map_more row_entries [] (take i ds) (get_or ds i null)))
@@ -150,13 +150,13 @@ columns ds n all k lt =
 pub entry_at :
     (ds : List Data) (n i j : ℕ) → ((k : ℕ) → k < length ds → length (items_of (get_or ds k null)) ≡ n)
     → i < length ds → j < n
-    → distance (table n (flat_map row_entries ds)) i j ≡ entry_of (get_or (items_of (get_or ds i null)) j null)
+    → distance (table n (flat_map row_entries ds)) i j ≡ said_distance (get_or (items_of (get_or ds i null)) j null)
 entry_at ds n i j each lt in_row =
     let long : j < length (items_of (get_or ds i null)) = omega (arith, each i lt) in
     let there : j < length (row_entries (get_or ds i null)) = simp length-map long in
     ap (λ before. get_or (flat_map row_entries ds) (before + j) 0) (sym (rows_before ds n i each (omega arith)))
     ∙ get_or-flat_map row_entries ds i j null 0 lt there
-    ∙ get_or-map entry_of (items_of (get_or ds i null)) j null 0 long
+    ∙ get_or-map said_distance (items_of (get_or ds i null)) j null 0 long
 
 within_limit : (i n : ℕ) → i < n → n ≤ NODE_LIMIT → i * n + n ≤ ENTRY_LIMIT
 within_limit i n lt few =

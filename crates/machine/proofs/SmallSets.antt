@@ -3,14 +3,14 @@ use Rattle.std.proofs.Common.{◌≡◌, ℕ, ◌+◌, cond, Bool, true, false, 
 use Rattle.std.specs.Prelude.{◌==◌, ◌||◌, position, unwrap_or}
 use Rattle.std.specs.List.{list_any, list_all}
 use Rattle.std.proofs.lemmas.Bool.{true≢false, and_parts, and_from, or_right, eqb-true}
-use Rattle.faults.specs.Tests.{same_tests}
+use Rattle.faults.specs.TestLaws.{same_tests}
 use Rattle.std.proofs.lemmas.Bool.Decides.{nat_tests}
 use Rattle.std.specs.Ordering.{nat_cmp}
 use Rattle.std.specs.Cmp.{nat_cmp_total}
 use Rattle.std.specs.FinSet as set
 use Rattle.std.specs.FinSet.{contains-from_list_nat}
 use Rattle.cpu_set.specs.Ids.{Ids}
-use Rattle.cpu_set.specs.Pointwise.{contains-empty, contains-union, is_subset-contains, contains-is_subset}
+use Rattle.cpu_set.specs.PointwiseLaws.{contains-empty, contains-union, is_subset-contains, contains-is_subset}
 use Rattle.machine.specs.Cores.{core_of, cpus_of_core, cores_in, whole_in}
 use Rattle.machine.specs.Nodes.{node_of}
 use Rattle.machine.specs.Present.{union_of}

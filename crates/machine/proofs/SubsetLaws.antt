@@ -2,9 +2,9 @@
 use Rattle.std.proofs.Common.{◌≡◌, Bool, true, false, ◌↔◌, not, refl, sym, ap, ◌∙◌}
 use Rattle.std.proofs.lemmas.Bool.{true≢false, false≢true, false_from_ne_true, and_parts}
 use Rattle.std.specs.FinSet as set
-use Rattle.faults.specs.Tests.{left_over}
+use Rattle.faults.specs.TestLaws.{left_over}
 use Rattle.cpu_set.specs.Ids.{Ids, is_empty}
-use Rattle.cpu_set.specs.Pointwise.{contains-difference, is_subset-contains, contains-is_subset}
+use Rattle.cpu_set.specs.PointwiseLaws.{contains-difference, is_subset-contains, contains-is_subset}
 use Rattle.cpu_set.specs.SetLaws.{is_empty-some, is_empty-empty}
 
 -- what is within a set is within each set round that

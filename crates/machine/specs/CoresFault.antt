@@ -12,7 +12,7 @@ use Rattle.machine.specs.declared.fault.MachineFault.{MachineFault}
 use Rattle.machine.specs.declared.fault.MachineFault.TheVariants.{BadField, BadCore, NoCore}
 use Rattle.machine.specs.declared.field.Field.TheVariants.{Cores}
 use Rattle.machine.specs.KindFaults.{array_fault}
-use Rattle.machine.specs.Listed.{is_list, listed}
+use Rattle.machine.specs.Listed.{is_list, cpus_named}
 use Rattle.machine.specs.Members.{items_of}
 use Rattle.machine.specs.Present.{union_of}
 
@@ -70,6 +70,6 @@ cores_fault nodes reserved None = None
 cores_fault nodes reserved (Some d) = first_of (
     array_fault Cores (Some d)
     ∷ lists_fault (items_of d)
-    ∷ first_core_fault nodes reserved (map listed (items_of d))
-    ∷ left_fault nodes (map listed (items_of d))
+    ∷ first_core_fault nodes reserved (map cpus_named (items_of d))
+    ∷ left_fault nodes (map cpus_named (items_of d))
     ∷ [])

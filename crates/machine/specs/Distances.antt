@@ -8,12 +8,12 @@ use Rattle.slit.specs.Table.{Table, table}
 use Rattle.machine.specs.Members.{items_of, items_in}
 
 -- an entry of a row
-abbrev pub entry_of : Data → ℕ
-entry_of d = unwrap_or (unsigned_of d) 0
+abbrev pub said_distance : Data → ℕ
+said_distance d = unwrap_or (unsigned_of d) 0
 
 -- the entries of a row
 abbrev pub row_entries : Data → List ℕ
-row_entries row = map entry_of (items_of row)
+row_entries row = map said_distance (items_of row)
 
 -- the distances by rows
 abbrev pub distances_in : Option Table → Option Data → List ℕ
@@ -27,7 +27,7 @@ pub record AreEntries (n : ℕ) (entries : List ℕ) : Type 0 where
 
 -- each entry of a row i may stand there
 abbrev pub IsRowAllowed : ℕ → List Data → Type 0
-IsRowAllowed i cells = (j : ℕ) → j < length cells → IsEntry i j (entry_of (slice_index_or cells j null))
+IsRowAllowed i cells = (j : ℕ) → j < length cells → IsEntry i j (said_distance (slice_index_or cells j null))
 
 -- each entry of the rows may stand where it stands
 abbrev pub AreRowsAllowed : List Data → Type 0

@@ -17,12 +17,12 @@ entry_fault i j None = Some (BadField Distances)
 entry_fault i j (Some d) = when (not (cond (i == j) (d == 10) (nat_le 10 d && nat_le d 255))) (BadDistance i j)
 
 -- the first fault in row i
-unfoldable pub row_fault : ℕ → List Data → Option MachineFault
-row_fault i cells = first_below (length cells) (λ j. entry_fault i j (unsigned_of (slice_index_or cells j null)))
+unfoldable pub distance_row_fault : ℕ → List Data → Option MachineFault
+distance_row_fault i cells = first_below (length cells) (λ j. entry_fault i j (unsigned_of (slice_index_or cells j null)))
 
 -- the first fault of the entries, by rows
 unfoldable pub rows_fault : List Data → Option MachineFault
-rows_fault rows = first_below (length rows) (λ i. row_fault i (items_of (slice_index_or rows i null)))
+rows_fault rows = first_below (length rows) (λ i. distance_row_fault i (items_of (slice_index_or rows i null)))
 
 -- one of the rows is no array, or there are not n rows of n entries
 unfoldable pub shape_fault : ℕ → List Data → Option MachineFault

@@ -7,7 +7,7 @@ use Rattle.serde_json.specs.Data.{Data, null}
 use Rattle.serde_json.specs.Find.{as_array, as_object}
 use Rattle.slit.specs.Table.{Table}
 use Rattle.json_text.specs.Numbers.{unsigned_of}
-use Rattle.machine.specs.Listed.{is_list, listed, listed_in}
+use Rattle.machine.specs.Listed.{is_list, cpus_named, listed_in}
 use Rattle.machine.specs.MachineOf.{said_by}
 use Rattle.machine.specs.Members.{nodes_member, distances_member, reserved_member, offline_member, cores_member, items_of, items_in}
 use Rattle.machine.specs.Present.{union_of, present}
@@ -38,7 +38,7 @@ pub record AreSharedOut (cpus : Ids) (cores : List Ids) : Type 0 where
 pub record HasCores (cpus : Ids) (d : Data) : Type 0 where
   pub array : is_some (as_array d) ≡ true
   pub lists : list_all is_list (items_of d) ≡ true
-  pub shared_out : AreSharedOut cpus (map listed (items_of d))
+  pub shared_out : AreSharedOut cpus (map cpus_named (items_of d))
 
 -- the value has the members of a machine file, each of its kind; no CPU is offline that is not present; if cores are listed,
 -- all CPUs are shared out between them

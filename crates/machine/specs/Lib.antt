@@ -7,8 +7,8 @@ pub mod Lowered
 pub mod Cores
 pub mod WholeLaws
 pub mod NodeLaws
-pub mod CoreCounts
-pub mod CoreSums
+pub mod CoreCountLaws
+pub mod CoreSumLaws
 pub mod IsSound
 pub mod Index
 pub mod FieldName
@@ -16,6 +16,7 @@ pub mod Members
 pub mod Listed
 pub mod ListLaws
 pub mod KindFaults
+pub mod AreNodes
 pub mod NodesFault
 pub mod Distances
 pub mod DistancesFault

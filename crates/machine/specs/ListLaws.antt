@@ -4,11 +4,11 @@ use Rattle.std.specs.Prelude.{◌||◌, nat_le}
 use Rattle.std.specs.List.{list_any, AllByRecursion}
 use Rattle.std.proofs.lemmas.Bool.{false≢true}
 use Rattle.std.proofs.lemmas.Bool.Decides.{nat_tests}
-use Rattle.cpu_list.specs.ItemFaults.{range_of-nil}
+use Rattle.cpu_list.specs.ItemFaultLaws.{range_of-nil}
 use Rattle.cpu_list.specs.ListText.{names, piece_names, range_names, range_of, item_of, pieces, IsItem, IsList, IsSetOf}
-use Rattle.cpu_set.specs.Those.{contains-those}
+use Rattle.cpu_set.specs.ThoseLemmas.{contains-those}
 use Rattle.cpu_set.specs.Ids.{Ids}
-use Rattle.cpu_set.specs.Pointwise.{same_members}
+use Rattle.cpu_set.specs.PointwiseLaws.{same_members}
 use Rattle.cpu_set.specs.declared.TheConstants.{CPU_LIMIT}
 use Rattle.machine.specs.Listed.{set_of}
 

@@ -19,10 +19,10 @@ abbrev pub is_list : Data → Bool
 is_list d = option_map_or (λ text. is_none (first_fault CPU_LIMIT text)) (as_str d) false
 
 -- the CPUs that a value names
-abbrev pub listed : Data → Ids
-listed d = set_of (unwrap_or (as_str d) [])
+abbrev pub cpus_named : Data → Ids
+cpus_named d = set_of (unwrap_or (as_str d) [])
 
 -- the CPUs that a member names, none where it is absent
 abbrev pub listed_in : Option Data → Ids
 listed_in None = set.empty
-listed_in (Some d) = listed d
+listed_in (Some d) = cpus_named d

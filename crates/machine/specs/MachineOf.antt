@@ -17,7 +17,7 @@ use Rattle.machine.specs.DistancesFault.{distances_fault}
 use Rattle.json_text.specs.JsonOf as json
 use Rattle.machine.specs.KindFaults.{array_fault}
 use Rattle.machine.specs.Layout.{Layout}
-use Rattle.machine.specs.Listed.{listed, listed_in}
+use Rattle.machine.specs.Listed.{cpus_named, listed_in}
 use Rattle.machine.specs.Members.{nodes_member, distances_member, reserved_member, offline_member, cores_member, items_in}
 use Rattle.machine.specs.NodesFault.{nodes_fault}
 use Rattle.machine.specs.Present.{union_of, present}
@@ -25,12 +25,12 @@ use Rattle.machine.specs.Present.{union_of, present}
 -- what a JSON value says of a machine: a look-up
 abbrev pub said_by : Option Table → Data → Layout
 said_by slit d = record {
-  nodes = map listed (items_in (nodes_member d));
+  nodes = map cpus_named (items_in (nodes_member d));
   distances = distances_in slit (distances_member d);
   reserved = listed_in (reserved_member d);
-  online = set.difference (union_of (map listed (items_in (nodes_member d)))) (listed_in (offline_member d));
-  lowest = lowest_of (map listed (items_in (cores_member d)));
-  threads = size_of (map listed (items_in (cores_member d)));
+  online = set.difference (union_of (map cpus_named (items_in (nodes_member d)))) (listed_in (offline_member d));
+  lowest = lowest_of (map cpus_named (items_in (cores_member d)));
+  threads = size_of (map cpus_named (items_in (cores_member d)));
 }
 
 -- the first fault of a JSON value, in the order of the checks
@@ -42,7 +42,7 @@ value_fault slit d = first_of (
     ∷ distances_fault slit (distances_member d) (length (items_in (nodes_member d)))
     ∷ reserved_fault (reserved_member d) (present (said_by slit d))
     ∷ offline_fault (offline_member d) (present (said_by slit d)) (listed_in (reserved_member d))
-    ∷ cores_fault (map listed (items_in (nodes_member d))) (listed_in (reserved_member d)) (cores_member d)
+    ∷ cores_fault (map cpus_named (items_in (nodes_member d))) (listed_in (reserved_member d)) (cores_member d)
     ∷ [])
 
 -- what a text says that may be no JSON

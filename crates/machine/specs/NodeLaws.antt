@@ -12,9 +12,9 @@ use Rattle.std.proofs.lemmas.List.Quantifiers.{position-Some}
 use Rattle.std.proofs.lemmas.List.Sums.{fails_before_first}
 use Rattle.std.specs.FinSet as set
 use Rattle.cpu_set.specs.Ids.{Ids, IsDisjoint}
-use Rattle.cpu_set.specs.Pointwise.{same_members, contains-empty, contains-union}
+use Rattle.cpu_set.specs.PointwiseLaws.{same_members, contains-empty, contains-union}
 use Rattle.cpu_set.specs.Members.{members}
-use Rattle.cpu_set.specs.Those.{contains-those}
+use Rattle.cpu_set.specs.ThoseLemmas.{contains-those}
 use Rattle.machine.specs.Layout.{Layout, node_count, cpus_of, distance}
 use Rattle.machine.specs.IsSound.{IsSound}
 use Rattle.machine.specs.Nodes.{nodes_of, node_of, IsOfNode}

@@ -9,7 +9,7 @@ use Rattle.machine.specs.declared.fault.MachineFault.{MachineFault}
 use Rattle.machine.specs.declared.fault.MachineFault.TheVariants.{NodeCount, CpuTwice}
 use Rattle.machine.specs.declared.field.Field.TheVariants.{Nodes}
 use Rattle.machine.specs.Present.{union_of}
-use Rattle.machine.specs.Listed.{listed}
+use Rattle.machine.specs.Listed.{cpus_named}
 use Rattle.machine.specs.KindFaults.{list_fault}
 
 -- the least CPU of a node that the earlier nodes have too
@@ -18,12 +18,12 @@ twice_fault earlier cpus = option_map CpuTwice (least_that (λ cpu. set.contains
 
 -- a node is no list of CPUs, or has one of the earlier nodes' CPUs
 unfoldable pub node_fault : Ids → Data → Option MachineFault
-node_fault earlier d = first_of (list_fault Nodes d ∷ twice_fault earlier (listed d) ∷ [])
+node_fault earlier d = first_of (list_fault Nodes d ∷ twice_fault earlier (cpus_named d) ∷ [])
 
 -- the first fault of a node, after those before it
 unfoldable pub first_node_fault : List Data → Option MachineFault
 first_node_fault items =
-    first_below (length items) (λ i. node_fault (union_of (map listed (take i items))) (slice_index_or items i null))
+    first_below (length items) (λ i. node_fault (union_of (map cpus_named (take i items))) (slice_index_or items i null))
 
 -- there are too few or too many nodes, or one of them is at fault
 unfoldable pub nodes_fault : List Data → Option MachineFault

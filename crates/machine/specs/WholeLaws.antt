@@ -3,11 +3,11 @@ use Rattle.std.proofs.Common.{◌≡◌, ℕ, Bool, true, false, ◌&&◌, nat_l
 use Rattle.std.specs.Prelude.{◌==◌}
 use Rattle.std.proofs.lemmas.Bool.{and_from, and_parts, lt-ltb, eq-eqb, eqb-true}
 use Rattle.std.specs.FinSet as set
-use Rattle.faults.specs.Tests.{same_tests}
+use Rattle.faults.specs.TestLaws.{same_tests}
 use Rattle.cpu_set.specs.Ids.{Ids, IsDisjoint}
 use Rattle.cpu_set.specs.Members.{InRange}
-use Rattle.cpu_set.specs.Pointwise.{same_members, is_subset-contains, contains-is_subset}
-use Rattle.cpu_set.specs.Those.{contains-those}
+use Rattle.cpu_set.specs.PointwiseLaws.{same_members, is_subset-contains, contains-is_subset}
+use Rattle.cpu_set.specs.ThoseLemmas.{contains-those}
 use Rattle.cpu_set.specs.declared.TheConstants.{CPU_LIMIT}
 use Rattle.machine.specs.Cores.{core_of, cpus_of_core, is_core_in, cores_in, cpus_of_cores, whole_in, IsWhole, AreCores}
 use Rattle.machine.specs.Layout.{Layout}

@@ -1,21 +1,21 @@
 //! The cores, as the member `cores` lists their CPUs.
-ghost use Rattle.std.specs.Prelude.{◌≡◌, ◌≤◌, ℕ, ◌<◌, ◌&&◌, ◌||◌, ◌==◌, true, IsTrue, IfOk, IfSome, OnOk, AllPairs};
+ghost use Rattle.std.specs.Prelude.{◌≡◌, ◌≤◌, ℕ, ◌<◌, ◌&&◌, ◌||◌, ◌==◌, true, IsTrue, IfOk, IfSome, OnOk};
 ghost use Rattle.std.specs.Prelude.{is_some, length, map, slice_index_or, ◌↔◌, List, [], ◌∷◌, Some};
 ghost use Rattle.std.specs.List.{list_all};
 ghost use Rattle.std.specs.Result.{result_err};
 ghost use Rattle.std.specs.FinSet as set;
 ghost use Rattle.serde_json.specs.View.{view};
 ghost use Rattle.json_text.specs.Members.{seen};
-ghost use Rattle.cpu_set.specs.Ids.{Ids, IsDisjoint};
+ghost use Rattle.cpu_set.specs.Ids.{Ids};
 ghost use Rattle.cpu_set.specs.declared.TheConstants.{CPU_LIMIT};
-ghost use Rattle.machine.specs.declared.TheConstants.{NODE_LIMIT};
-ghost use Rattle.machine.specs.declared.field.Field.TheVariants.{Nodes, Cores as CoresField};
+ghost use Rattle.machine.specs.declared.field.Field.TheVariants.{Cores as CoresField};
 ghost use Rattle.cpu_set.specs.Least.{least_of};
 ghost use Rattle.machine.specs.CoresFault.{cores_fault, lists_fault, first_core_fault, left_fault, lowest_of, size_of};
 ghost use Rattle.machine.specs.CoresFault.{is_within, is_core};
 ghost use Rattle.machine.specs.Index.{ArePlaces, AreSiblings, AreFirsts};
+ghost use Rattle.machine.specs.AreNodes.{AreNodes};
 ghost use Rattle.machine.specs.KindFaults.{AreLists};
-ghost use Rattle.machine.specs.Listed.{is_list, listed};
+ghost use Rattle.machine.specs.Listed.{is_list, cpus_named};
 ghost use Rattle.machine.specs.Members.{items_in, items_of};
 ghost use Rattle.machine.specs.Present.{union_of};
 ghost use Rattle.faults.specs.First.{first_of};
@@ -44,13 +44,10 @@ pub(crate) fn read_cores(
     present: &IdSet,
     reserved: &IdSet,
 ) -> Result<Cores, MachineFault>
-    requires lists { AreLists Nodes (map view nodes.now) }
-    requires few { length nodes.now ≤ NODE_LIMIT }
-    requires apart { AllPairs IsDisjoint (map listed (map view nodes.now)) }
-    requires present { present.now ≡ union_of (map listed (map view nodes.now)) }
-    ensures fault { cores_fault (map listed (map view nodes.now)) reserved.now (seen found.entry) ≡ result_err result }
-    ensures lowest { IfOk result (λ c. c.lowest ≡ lowest_of (map listed (items_in (seen found.entry)))) }
-    ensures threads { IfOk result (λ c. c.threads ≡ size_of (map listed (items_in (seen found.entry)))) }
+    requires nodes { AreNodes (map view nodes.now) present.now }
+    ensures fault { cores_fault (map cpus_named (map view nodes.now)) reserved.now (seen found.entry) ≡ result_err result }
+    ensures lowest { IfOk result (λ c. c.lowest ≡ lowest_of (map cpus_named (items_in (seen found.entry)))) }
+    ensures threads { IfOk result (λ c. c.threads ≡ size_of (map cpus_named (items_in (seen found.entry)))) }
 {
     match found {
         Some(value) => read_listed(value, nodes, present, reserved),
@@ -69,14 +66,11 @@ fn read_listed(
     present: &IdSet,
     reserved: &IdSet,
 ) -> Result<Cores, MachineFault>
-    requires lists { AreLists Nodes (map view nodes.now) }
-    requires few { length nodes.now ≤ NODE_LIMIT }
-    requires apart { AllPairs IsDisjoint (map listed (map view nodes.now)) }
-    requires present { present.now ≡ union_of (map listed (map view nodes.now)) }
-    ensures fault { cores_fault (map listed (map view nodes.now)) reserved.now (Some (view value.now))
+    requires nodes { AreNodes (map view nodes.now) present.now }
+    ensures fault { cores_fault (map cpus_named (map view nodes.now)) reserved.now (Some (view value.now))
         ≡ result_err result }
-    ensures lowest { IfOk result (λ c. c.lowest ≡ lowest_of (map listed (items_of (view value.now)))) }
-    ensures threads { IfOk result (λ c. c.threads ≡ size_of (map listed (items_of (view value.now)))) }
+    ensures lowest { IfOk result (λ c. c.lowest ≡ lowest_of (map cpus_named (items_of (view value.now)))) }
+    ensures threads { IfOk result (λ c. c.threads ≡ size_of (map cpus_named (items_of (view value.now)))) }
 {
     let items = array(Some(value), Field::Cores)?;
     check_lists(items)?;
@@ -128,15 +122,12 @@ fn read_each(
     reserved: &IdSet,
 ) -> Result<Cores, MachineFault>
     requires items { AreLists CoresField (map view items.now) }
-    requires lists { AreLists Nodes (map view nodes.now) }
-    requires few { length nodes.now ≤ NODE_LIMIT }
-    requires apart { AllPairs IsDisjoint (map listed (map view nodes.now)) }
-    requires present { present.now ≡ union_of (map listed (map view nodes.now)) }
-    ensures fault { first_of (first_core_fault (map listed (map view nodes.now)) reserved.now
-        (map listed (map view items.now)) ∷ left_fault (map listed (map view nodes.now))
-        (map listed (map view items.now)) ∷ []) ≡ result_err result }
-    ensures lowest { IfOk result (λ c. c.lowest ≡ lowest_of (map listed (map view items.now))) }
-    ensures threads { IfOk result (λ c. c.threads ≡ size_of (map listed (map view items.now))) }
+    requires nodes { AreNodes (map view nodes.now) present.now }
+    ensures fault { first_of (first_core_fault (map cpus_named (map view nodes.now)) reserved.now
+        (map cpus_named (map view items.now)) ∷ left_fault (map cpus_named (map view nodes.now))
+        (map cpus_named (map view items.now)) ∷ []) ≡ result_err result }
+    ensures lowest { IfOk result (λ c. c.lowest ≡ lowest_of (map cpus_named (map view items.now))) }
+    ensures threads { IfOk result (λ c. c.threads ≡ size_of (map cpus_named (map view items.now))) }
 {
     let places = places_of(nodes);
     let threads = size_of(items);
@@ -159,7 +150,7 @@ fn read_each(
 /// How many CPUs core 0 has, and 1 where no core is listed.
 fn size_of(items: &[Value]) -> u32
     requires { AreLists CoresField (map view items.now) }
-    ensures { result ≡ size_of (map listed (map view items.now)) }
+    ensures { result ≡ size_of (map cpus_named (map view items.now)) }
 {
     match items.first() {
         Some(first) => cpus_of(first, Field::Cores).count(),

@@ -7,7 +7,7 @@ ghost use Rattle.cpu_set.specs.declared.TheConstants.{CPU_LIMIT};
 ghost use Rattle.machine.specs.declared.field.Field.TheVariants.{Nodes};
 ghost use Rattle.machine.specs.Index.{ArePlaces};
 ghost use Rattle.machine.specs.KindFaults.{AreLists};
-ghost use Rattle.machine.specs.Listed.{listed};
+ghost use Rattle.machine.specs.Listed.{cpus_named};
 ghost use Rattle.machine.specs.declared.TheConstants.{NODE_LIMIT};
 
 use crate::field::Field;
@@ -19,8 +19,8 @@ use serde_json::Value;
 pub(crate) fn places_of(items: &[Value]) -> [u16; CPU_LIMIT as usize]
     requires lists { AreLists Nodes (map view items.now) }
     requires few { length items.now ≤ NODE_LIMIT }
-    requires apart { AllPairs IsDisjoint (map listed (map view items.now)) }
-    ensures { ArePlaces (map listed (map view items.now)) result }
+    requires apart { AllPairs IsDisjoint (map cpus_named (map view items.now)) }
+    ensures { ArePlaces (map cpus_named (map view items.now)) result }
 {
     let mut places = [0; CPU_LIMIT as usize];
     for i in 0..items.len() {

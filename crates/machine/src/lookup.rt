@@ -5,7 +5,7 @@ ghost use Rattle.serde_json.specs.View.{view};
 ghost use Rattle.json_text.specs.Members.{member_of, seen};
 ghost use Rattle.machine.specs.FieldName.{name_of};
 ghost use Rattle.machine.specs.Members.{items_in};
-ghost use Rattle.machine.specs.Listed.{listed};
+ghost use Rattle.machine.specs.Listed.{cpus_named};
 ghost use Rattle.machine.specs.KindFaults.{array_fault, list_fault};
 
 use crate::fault::MachineFault;
@@ -39,7 +39,7 @@ pub(crate) fn array(found: Option<&Value>, field: Field) -> Result<&[Value], Mac
 /// The CPUs of a value that is a list.
 pub(crate) fn cpus_of(value: &Value, field: Field) -> IdSet
     requires { list_fault field (view value.now) ≡ None }
-    ensures { result ≡ listed (view value.now) }
+    ensures { result ≡ cpus_named (view value.now) }
 {
     list(value, field).unwrap()
 }
@@ -47,7 +47,7 @@ pub(crate) fn cpus_of(value: &Value, field: Field) -> IdSet
 /// The CPUs of a value that has to be a list as text.
 pub(crate) fn list(value: &Value, field: Field) -> Result<IdSet, MachineFault>
     ensures fault { list_fault field (view value.now) ≡ result_err result }
-    ensures cpus { IfOk result (λ cpus. cpus ≡ listed (view value.now)) }
+    ensures cpus { IfOk result (λ cpus. cpus ≡ cpus_named (view value.now)) }
 {
     let Some(text) = value.as_str() else {
         return Err(MachineFault::BadField(field));

@@ -6,7 +6,7 @@ ghost use Rattle.cpu_set.specs.Ids.{IsDisjoint};
 ghost use Rattle.machine.specs.declared.field.Field.TheVariants.{Nodes};
 ghost use Rattle.machine.specs.KindFaults.{AreLists};
 ghost use Rattle.machine.specs.Present.{union_of};
-ghost use Rattle.machine.specs.Listed.{listed};
+ghost use Rattle.machine.specs.Listed.{cpus_named};
 ghost use Rattle.machine.specs.NodesFault.{twice_fault, node_fault, first_node_fault, nodes_fault};
 
 use crate::NODE_LIMIT;
@@ -21,10 +21,10 @@ use std::alloc::{AllocError, Global};
 #[tactic(auto, using(crate::proofs::ItemLaws::item_counts), unfolding(crate::specs::NodesFault::nodes_fault))]
 pub(crate) fn unite_nodes(items: &[Value]) -> Result<IdSet, MachineFault>
     ensures fault { nodes_fault (map view items.now) ≡ result_err result }
-    ensures union { IfOk result (λ all. all ≡ union_of (map listed (map view items.now))) }
+    ensures union { IfOk result (λ all. all ≡ union_of (map cpus_named (map view items.now))) }
     ensures some { OnOk result (1 ≤ length items.now) }
     ensures few { OnOk result (length items.now ≤ NODE_LIMIT) }
-    ensures apart { OnOk result (AllPairs IsDisjoint (map listed (map view items.now))) }
+    ensures apart { OnOk result (AllPairs IsDisjoint (map cpus_named (map view items.now))) }
     ensures lists { OnOk result (AreLists Nodes (map view items.now)) }
 {
     if items.is_empty() || items.len() > NODE_LIMIT {
@@ -35,8 +35,8 @@ pub(crate) fn unite_nodes(items: &[Value]) -> Result<IdSet, MachineFault>
 
 fn unite(items: &[Value]) -> Result<IdSet, MachineFault>
     ensures fault { first_node_fault (map view items.now) ≡ result_err result }
-    ensures union { IfOk result (λ all. all ≡ union_of (map listed (map view items.now))) }
-    ensures apart { OnOk result (AllPairs IsDisjoint (map listed (map view items.now))) }
+    ensures union { IfOk result (λ all. all ≡ union_of (map cpus_named (map view items.now))) }
+    ensures apart { OnOk result (AllPairs IsDisjoint (map cpus_named (map view items.now))) }
     ensures lists { OnOk result (AreLists Nodes (map view items.now)) }
 {
     let mut all = IdSet::empty();
@@ -51,7 +51,7 @@ fn unite(items: &[Value]) -> Result<IdSet, MachineFault>
 #[tactic(auto, unfolding(crate::specs::NodesFault::node_fault))]
 fn read_node(item: &Value, earlier: &IdSet) -> Result<IdSet, MachineFault>
     ensures fault { node_fault earlier.now (view item.now) ≡ result_err result }
-    ensures cpus { IfOk result (λ cpus. cpus ≡ listed (view item.now)) }
+    ensures cpus { IfOk result (λ cpus. cpus ≡ cpus_named (view item.now)) }
     ensures apart { IfOk result (λ cpus. IsDisjoint earlier.now cpus) }
 {
     let cpus = list(item, Field::Nodes)?;
@@ -73,7 +73,7 @@ fn check_apart(cpus: &IdSet, earlier: &IdSet) -> Result<(), MachineFault>
 /// The CPUs of each node in their order.
 pub(crate) fn sets_of(alloc: Global, items: &[Value]) -> Result<Vec<IdSet>, AllocError>
     requires { AreLists Nodes (map view items.now) }
-    ensures { IfOk result (λ sets. sets.items ≡ map listed (map view items.now)) }
+    ensures { IfOk result (λ sets. sets.items ≡ map cpus_named (map view items.now)) }
 {
     let mut sets = Vec::with_capacity(alloc, items.len())?;
     for item in items {

@@ -9,9 +9,9 @@ ghost use Rattle.slit.specs.AreDistances.{IsEntry};
 ghost use Rattle.json_text.specs.Members.{seen};
 ghost use Rattle.machine.specs.Members.{items_of};
 ghost use Rattle.json_text.specs.Numbers.{unsigned_of};
-ghost use Rattle.machine.specs.Distances.{entry_of, row_entries, distances_in, AreEntries, IsRowAllowed};
+ghost use Rattle.machine.specs.Distances.{said_distance, row_entries, distances_in, AreEntries, IsRowAllowed};
 ghost use Rattle.machine.specs.Distances.{AreRowsAllowed};
-ghost use Rattle.machine.specs.DistancesFault.{entry_fault, row_fault, rows_fault, shape_fault, distances_fault};
+ghost use Rattle.machine.specs.DistancesFault.{entry_fault, distance_row_fault, rows_fault, shape_fault, distances_fault};
 
 use crate::fault::MachineFault;
 use crate::field::Field;
@@ -139,8 +139,8 @@ fn read_row(
     i: usize,
 ) -> Result<(), MachineFault>
     requires { length entries.old.items + length cells.now ≤ ENTRY_LIMIT }
-    ensures fault { row_fault i (map view cells.now) ≡ result_err result }
-    ensures added { OnOk result (entries.new.items ≡ entries.old.items ++ map entry_of (map view cells.now)) }
+    ensures fault { distance_row_fault i (map view cells.now) ≡ result_err result }
+    ensures added { OnOk result (entries.new.items ≡ entries.old.items ++ map said_distance (map view cells.now)) }
     ensures allowed { OnOk result (IsRowAllowed i (map view cells.now)) }
 {
     for (j, cell) in cells.iter().enumerate() {
@@ -153,7 +153,7 @@ fn read_row(
 /// The entry in row `i` and column `j`.
 fn read_entry(cell: &Value, i: usize, j: usize) -> Result<u8, MachineFault>
     ensures fault { entry_fault i j (unsigned_of (view cell.now)) ≡ result_err result }
-    ensures entry { IfOk result (λ d. d ≡ entry_of (view cell.now)) }
+    ensures entry { IfOk result (λ d. d ≡ said_distance (view cell.now)) }
     ensures allowed { IfOk result (IsEntry i j) }
 {
     let Some(number) = cell.as_u64() else {

@@ -41,8 +41,8 @@ impl Search {
         }
     }
 
-    /// An arc of negative reduced cost: the least of the first block that has one. None: there is none, or the arcs that
-    /// may be looked at are used up.
+    /// An arc of negative reduced cost: the least of the first block that has one. None: there is none, or the arcs
+    /// that may be looked at are used up.
     pub(crate) fn next(&mut self, arcs: &Arcs, tree: &Tree) -> Option<Entering> {
         let mut best = Entering {
             row: NONE,
@@ -70,11 +70,12 @@ impl Search {
     }
 }
 
-/// A stride that comes to all of so many classes before it comes to one again: the golden section of their number or a little
-/// more, as in Fibonacci hashing (Knuth, 1973). So a few classes in turn are spread over all of them (three-gap theorem).
+/// A stride that comes to all of so many classes before it comes to one again: the golden section of their number or a
+/// little more, as in Fibonacci hashing (Knuth, 1973). So a few classes in turn are spread over all of them (three-gap
+/// theorem).
 ///
-/// Classes next to each other have much the same arcs: with a stride of 1 some nested lists take three times as many pivots, of
-/// which each looks at four times as many arcs.
+/// Classes next to each other have much the same arcs: with a stride of 1 some nested lists take three times as many
+/// pivots, of which each looks at four times as many arcs.
 fn stride_over(classes: usize) -> usize {
     let mut stride = classes.wrapping_mul(377) / 610;
     for _ in 0..classes {

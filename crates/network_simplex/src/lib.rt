@@ -6,8 +6,8 @@
 //! what it comes to is checked, and a plan that does not pass is not handed out. So a mistake in it costs time, and no
 //! answer.
 //!
-//! The root gives each class the CPUs that no row holds, at weight 0. It takes what a row lacks, at a weight that no plan
-//! pays. A row's value and a class's price are how far their potentials are below the root's.
+//! The root gives each class the CPUs that no row holds, at weight 0. It takes what a row lacks, at a weight that no
+//! plan pays. A row's value and a class's price are how far their potentials are below the root's.
 //!
 //! # Proved
 //!

@@ -21,7 +21,8 @@ pub(crate) fn pivot_all(tree: &mut Tree, arcs: &Arcs) {
     }
 }
 
-/// Which arc leaves the tree: the child's node, whether it is on the row's way up, where both ways meet, and what flows.
+/// Which arc leaves the tree: the child's node, whether it is on the row's way up, where both ways meet, and what
+/// flows.
 #[derive(Drop)]
 struct Leaving {
     node: u32,
@@ -41,29 +42,20 @@ fn pivot(tree: &mut Tree, entering: Entering) {
         tree.add_flow(entering.row, leaving.top, less, more);
         tree.add_flow(entering.class, leaving.top, more, less);
     }
-    if leaving.is_on_row_side {
-        let more = 0i64.wrapping_sub(entering.reduced);
-        tree.hang_anew(
-            leaving.node,
+    let (at, by, more) = if leaving.is_on_row_side {
+        (
             entering.row,
             entering.class,
-            leaving.amount,
-            more,
-        );
+            0i64.wrapping_sub(entering.reduced),
+        )
     } else {
-        let more = entering.reduced;
-        tree.hang_anew(
-            leaving.node,
-            entering.class,
-            entering.row,
-            leaving.amount,
-            more,
-        );
-    }
+        (entering.class, entering.row, entering.reduced)
+    };
+    tree.hang_anew(leaving.node, at, by, leaving.amount, more);
 }
 
-/// The arc of the cycle that has the least flow to give up. Of several it is the last one on the way round, from where both
-/// ways meet over the row to the class: so the tree stays strongly feasible, and no pivots go round and round.
+/// The arc of the cycle that has the least flow to give up. Of several it is the last one on the way round, from where
+/// both ways meet over the row to the class: so the tree stays strongly feasible, and no pivots go round and round.
 fn leaving_arc(tree: &Tree, row: u32, class: u32) -> Leaving {
     let (mut a, mut b) = (row, class);
     let (mut of_row, mut least_of_row) = (NONE, NONE);
@@ -96,8 +88,8 @@ fn leaving_arc(tree: &Tree, row: u32, class: u32) -> Leaving {
     }
 }
 
-/// Hangs what hangs by the root with nothing, since all CPUs are taken, by its nearest arc, so that no value is that of an
-/// unserved row.
+/// Hangs what hangs by the root with nothing, since all CPUs are taken, by its nearest arc, so that no value is that of
+/// an unserved row.
 pub(crate) fn hang_parts(tree: &mut Tree, arcs: &Arcs) {
     for row in 0..tree.root {
         let node = tree.node(row);

@@ -27,9 +27,10 @@ pub struct Proposal {
 /// Seeks a plan of the least cost by network simplex, and hands it out only if [`check_plan`] accepts it. None: no plan
 /// was found, which says nothing of whether there is one.
 ///
-/// There are at most 256 pivots for each row and class, of which each takes a step for each row and class at most, and 512
-/// looks at each arc. Where all CPUs are taken, each arc is looked at once more for each row: O((r + g)^2 + r a) of r rows,
-/// g classes and a pairs of a row and a class that it may have. Memory is allocated for each row, class and such pair.
+/// There are at most 256 pivots for each row and class, of which each takes a step for each row and class at most, and
+/// 512 looks at each arc. Where all CPUs are taken, each arc is looked at once more for each row: O((r + g)^2 + r a) of
+/// r rows, g classes and a pairs of a row and a class that it may have. Memory is allocated for each row, class and
+/// such pair.
 ///
 /// # Errors
 /// An allocation failure; no problem is refused.

@@ -127,8 +127,8 @@ impl Tree {
         }
     }
 
-    /// Hangs the part of the tree below `leaving` by another arc: from `at`, one of its nodes, to a node outside of it. Adds to
-    /// the potential of each node of the part.
+    /// Hangs the part of the tree below `leaving` by another arc: from `at`, one of its nodes, to a node outside of it.
+    /// Adds to the potential of each node of the part.
     pub(crate) fn hang_anew(&mut self, leaving: u32, at: u32, by: u32, amount: u32, more: i64) {
         let top = at;
         let (mut at, mut parent, mut flow) = (at, by, amount);
@@ -152,53 +152,57 @@ impl Tree {
         self.put_behind(by, top, last);
     }
 
-    /// Takes a node and all below it off the thread. Adds to the potential of each, and moves `top` to this depth. Returns the
-    /// last of them.
+    /// Takes a node and all below it off the thread. Adds to the potential of each, and moves `top` to this depth.
+    /// Returns the last of them.
     fn take_off(&mut self, top: u32, more: i64, depth: u32) -> u32 {
         let before = self.node(top);
         let deeper = depth.wrapping_sub(before.depth);
         let mut last = top;
-        let mut at = self.shift(top, more, deeper);
+        let mut next = Some(top);
         for _ in 0..self.nodes.len() {
-            if self.node(at).depth <= before.depth {
+            let Some(at) = next else {
                 break;
-            }
+            };
+            self.shift(at, more, deeper);
             last = at;
-            at = self.shift(at, more, deeper);
+            next = self.next_below(at, before.depth);
         }
-        self.link(before.before, at);
+        self.link(before.before, self.node(last).next);
         last
     }
 
-    /// Adds to the potential of a node and to its depth; what comes behind it.
-    fn shift(&mut self, at: u32, more: i64, deeper: u32) -> u32 {
+    /// The node behind this one on the thread, if it is deeper: the next one of all below a node of this depth.
+    fn next_below(&self, at: u32, depth: u32) -> Option<u32> {
+        let next = self.node(at).next;
+        if self.node(next).depth > depth {
+            Some(next)
+        } else {
+            None
+        }
+    }
+
+    /// Adds to the potential of a node and to its depth.
+    fn shift(&mut self, at: u32, more: i64, deeper: u32) {
         if let Some(potential) = self.potentials.get_mut(at as usize) {
             *potential = potential.wrapping_add(more);
         }
-        match self.nodes.get_mut(at as usize) {
-            Some(node) => {
-                node.depth = node.depth.wrapping_add(deeper);
-                node.next
-            }
-            None => NONE,
+        if let Some(node) = self.nodes.get_mut(at as usize) {
+            node.depth = node.depth.wrapping_add(deeper);
         }
     }
 
     /// Marks a node and all below it as of the part that is named after it.
     pub(crate) fn mark(&mut self, top: u32) {
         let depth = self.node(top).depth;
-        let mut at = top;
+        let mut next = Some(top);
         for _ in 0..self.nodes.len() {
-            at = match self.nodes.get_mut(at as usize) {
-                Some(node) => {
-                    node.part = top;
-                    node.next
-                }
-                None => NONE,
-            };
-            if self.node(at).depth <= depth {
+            let Some(at) = next else {
                 break;
+            };
+            if let Some(node) = self.nodes.get_mut(at as usize) {
+                node.part = top;
             }
+            next = self.next_below(at, depth);
         }
     }
 

@@ -16,13 +16,13 @@ use Rattle.std.specs.List.{All, AllPairs, AllByRecursion, AllZip, cons_option, f
 use Rattle.std.specs.FinSet as set
 use Rattle.cpu_set.specs.Ids.{Ids}
 use Rattle.cpu_set.specs.Members.{InRange, cpus}
-use Rattle.cpu_set.specs.Pointwise.{contains-intersection, contains-is_subset}
+use Rattle.cpu_set.specs.PointwiseLaws.{contains-intersection, contains-is_subset}
 use Rattle.cpu_set.specs.SetLaws.{length-members}
 use Rattle.cpu_set.specs.declared.TheConstants.{CPU_LIMIT}
 use Rattle.cpuset_tree.specs.Groups.{has_group}
 use Rattle.kernel_model.specs.KernelState.{KernelState}
 use Rattle.machine.specs.Cores.{core_of, cores_in, cpus_of_cores}
-use Rattle.machine.specs.CoreCounts.{cores_are_alike}
+use Rattle.machine.specs.CoreCountLaws.{cores_are_alike}
 use Rattle.machine.specs.Layout.{Layout}
 use Rattle.machine.specs.Present.{present, IsPresent}
 use Rattle.machine.specs.Weight.{weight as distance_home}
@@ -34,7 +34,7 @@ use Rattle.demand.specs.FitsMachine.{AsksForCores, FitsMachine}
 use Rattle.certificate.specs.declared.Offer.{Offer}
 use Rattle.certificate.specs.declared.limits.TheConstants.{MAX_ROWS}
 use Rattle.certificate.specs.Packed.{packed}
-use Rattle.certificate.specs.Sums.{sum_by_times}
+use Rattle.certificate.specs.SumLaws.{sum_by_times}
 use Rattle.certificate.specs.RowView.{RowView}
 use Rattle.certificate.specs.Weight.{weight}
 use Rattle.certificate.specs.Limits.{row_fits, rows_fit}
@@ -44,7 +44,7 @@ use Rattle.certificate_text.specs.IdWord.{IsId}
 use Rattle.certificate_text.specs.Written.{CanWriteRow}
 use Rattle.rows.specs.Offers.{has_some}
 use Rattle.rows.specs.RowOf.{available, row_of, row_of_kind}
-use Rattle.rows.specs.Scaled.{kept, moved, parted, scaled, ScaledRowsWeigh}
+use Rattle.rows.specs.Scaled.{held_part, moved, parted, scaled, ScaledRowsWeigh}
 use Rattle.rows.specs.Weighs.{RowsWeigh}
 use Rattle.apply_plan.specs.Holders.{Pairwise}
 use Rattle.node.specs.declared.TheConstants.{CONTAINER_LIMIT}
@@ -162,7 +162,7 @@ parts_some held [] = tt
 parts_some held (o ∷ offers) =
     let here : AllByRecursion (λ (o : Offer). o.cpus ≢ set.empty) (parted held o) =
     recursion_from_All (λ (o : Offer). o.cpus ≢ set.empty) (parted held o)
-    (All-weaker (λ o. has_some o ≡ true) (λ o. o.cpus ≢ set.empty) some_cpu (parted held o) (filter_passes has_some (kept held o ∷ moved held o ∷ []))) in
+    (All-weaker (λ o. has_some o ≡ true) (λ o. o.cpus ≢ set.empty) some_cpu (parted held o) (filter_passes has_some (held_part held o ∷ moved held o ∷ []))) in
     subst (λ (os : List Offer). AllByRecursion (λ (o : Offer). o.cpus ≢ set.empty) os) (sym (flat_map-cons (parted held) o offers))
     (all_append (λ (o : Offer). o.cpus ≢ set.empty) (parted held o) (flat_map (parted held) offers) here (parts_some held offers))
 

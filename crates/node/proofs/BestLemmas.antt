@@ -8,7 +8,7 @@ use Rattle.std.specs.List.{AllByRecursion, AllZip, list_all}
 use Rattle.std.specs.FinSet as set
 use Rattle.cpu_set.specs.Ids.{Ids}
 use Rattle.cpu_set.specs.Members.{InRange, cpus, members}
-use Rattle.cpu_set.specs.Pointwise.{contains-difference, is_subset-contains}
+use Rattle.cpu_set.specs.PointwiseLaws.{contains-difference, is_subset-contains}
 use Rattle.cpu_set.specs.SetLaws.{length-members}
 use Rattle.cpu_set.specs.declared.TheConstants.{CPU_LIMIT}
 use Rattle.certificate.specs.RowView.{RowView}
@@ -20,9 +20,10 @@ use Rattle.certificate.specs.IsShortage.{IsShortage}
 use Rattle.certificate.specs.Cost.{cost}
 use Rattle.certificate.specs.Limits.{rows_fit}
 use Rattle.certificate.specs.Scaled.{with_weights, by_distance, by_moves, is_scaled, are_scaled}
-use Rattle.certificate.specs.TwoCosts.{cost_splits, moves_are_few, least_is_nearest}
+use Rattle.certificate.specs.TwoCostLaws.{cost_splits, moves_are_few, least_is_nearest}
 use Rattle.certificate.specs.declared.limits.TheConstants.{MOVE_SCALE}
-use Rattle.certificate.specs.Packed.{packed, distance_of, moves_of, distance_of-packed}
+use Rattle.certificate.specs.Packed.{packed, distance_of, moves_of}
+use Rattle.certificate.specs.PackedLemmas.{distance_of-packed}
 use Rattle.certificate.specs.Verdict.{AreParts}
 use Rattle.certificate.specs.declared.certificates.Certificate.{Certificate}
 use Rattle.certificate.specs.declared.certificates.Certificate.TheVariants.{Plan, Short}
@@ -32,7 +33,7 @@ use Rattle.solution.specs.Decides.{Decides, DecidesPlan, DecidesShort}
 use Rattle.rows.specs.Weighs.{RowsWeigh}
 use Rattle.rows.specs.LimitLemmas.{rows_weigh}
 use Rattle.rows.specs.PartLemmas.{scaled_rows_weigh, distances_stay, moves_are_unheld}
-use Rattle.rows.specs.PartRising.{parts_are_scaled}
+use Rattle.rows.specs.PartRisingLemmas.{parts_are_scaled}
 use Rattle.machine.specs.Cores.{cores_in}
 use Rattle.machine.specs.Layout.{Layout}
 use Rattle.machine.specs.WholeLaws.{cores_in-within}

@@ -9,6 +9,7 @@ use Rattle.cpu_set.specs.Ids.{Ids}
 use Rattle.cpuset_tree.specs.declared.Group.{Group}
 use Rattle.cpuset_tree.specs.Groups.{has_group}
 use Rattle.kernel_model.specs.declared.KernelFault.{KernelFault}
+use Rattle.kernel_model.specs.declared.KernelFault.TheVariants.{NoPids}
 use Rattle.kernel_model.specs.KernelState.{KernelState}
 use Rattle.kernel_model.specs.Refusals.{end_refusal}
 use Rattle.kernel_model.specs.RefusalLemmas.{calls_are_free}
@@ -23,17 +24,19 @@ use Rattle.node.specs.declared.sets.Sets.{Sets}
 use Rattle.node.specs.NodeState.{ContainerState, NodeState, container_of, is_underway}
 use Rattle.node.specs.Status.{is_live}
 use Rattle.node.specs.IsNode.{IsNode}
-use Rattle.node.specs.Launch.{Launches}
-use Rattle.node.specs.Owners.{is_pinned}
+use Rattle.node.specs.Launch.{Launches, lacks_pid}
+use Rattle.node.specs.Owners.{is_pinned, owners_of}
 use Rattle.node.specs.MayRequest.{MayRequest, IsLeastTaken}
 use Rattle.node.specs.Wanted.{Says, Reads}
 use Rattle.node.specs.Refusals.{IsFree, IsTakenFrom}
 use Rattle.node.specs.declared.container.Container.{Container}
 use Rattle.node.specs.Viewed.{entry_seen, all_seen}
-use Rattle.node.specs.Listed.{entry_listed, listed}
+use Rattle.node.specs.Listed.{entry_listed, listing}
 use Rattle.node.specs.Shown.{state_of, Shows}
 use Rattle.node.specs.Sets.{sets_at, HasSets}
 use Rattle.node.specs.Calls.{new_container, Created, NotLaunched, late_answer, Places, is_created, StartCause, Starts, is_ending, KillCause, Kills, DeleteCause, Deletes}
+use Rattle.node.proofs.ContainerLemmas.{other_ids}
+use Rattle.node.proofs.LateLemmas.{has_pid}
 use Rattle.node.proofs.EventLemmas.{only_failed}
 use Rattle.node.proofs.DeleteLemmas.{there, delete_failed}
 use Rattle.node.proofs.NodeLemmas.{started_node, deleted_node, created_node, not_created_node}
@@ -51,9 +54,9 @@ listed_seen k [] = refl
 listed_seen k (e ∷ es) = ap (λ later. entry_listed k (entry_seen e) ∷ later) (listed_seen k es)
 
 pub list_seen : (n now : NodeState) → n ≡ now → (xs es : List (String Global × Container)) → xs ≡ es → n.containers ≡ all_seen es
-    → map (λ e. entry_listed n.kernel (entry_seen e)) xs ≡ listed now
+    → map (λ e. entry_listed n.kernel (entry_seen e)) xs ≡ listing now
 list_seen n now is xs es same seen =
-    ap (map (λ e. entry_listed n.kernel (entry_seen e))) same ∙ listed_seen n.kernel es ∙ ap (map (entry_listed n.kernel)) (sym seen) ∙ ap listed is
+    ap (map (λ e. entry_listed n.kernel (entry_seen e))) same ∙ listed_seen n.kernel es ∙ ap (map (entry_listed n.kernel)) (sym seen) ∙ ap listing is
 
 module _ (n now : NodeState) (is : n ≡ now) (id : List ℕ) where
   pub sets_seen : (c : ContainerState) → container_of n id ≡ Some c → (sets : Sets) → sets ≡ sets_at n.kernel c.group → HasSets now id (Ok sets)
@@ -135,14 +138,28 @@ module _ (n now : NodeState) (is : n ≡ now) (id : List ℕ) where
     refl,
   )
 
+  pub place_lacks : (bundle config : List ℕ) → IsFree now id → (runnable : Bool) (asked : Asked) → Reads n.machine config (Ok (runnable, asked)) → (cpus : Ids)
+      → MayRequest now (is_pinned asked.kind) cpus → lacks_pid n.kernel n.parent id ≡ true
+      → (answer : OrMemory NodeFault) → answer ≡ late_answer (Fault NoPids) → Places cpus now id bundle config (Err answer) now
+  place_lacks bundle config free runnable asked reads cpus may lacks answer a =
+      subst (λ (x : OrMemory NodeFault). Places cpus now id bundle config (Err x) now) (sym a) (record {
+        said = reads.0;
+        asked = asked;
+        free = free;
+        says = subst (λ (m : NodeState). Says m.machine config reads.0 asked) is reads.2;
+        may = may;
+        lacks = subst (λ (m : NodeState). lacks_pid m.kernel m.parent id ≡ true) is lacks;
+        is = refl;
+      })
+
   module _ (bundle config : List ℕ) (free : IsFree now id) (runnable : Bool) (asked : Asked) (reads : Reads n.machine config (Ok (runnable, asked))) (cpus : Ids)
       (may : MayRequest now (is_pinned asked.kind) cpus) (new : KernelState) (cs : Containers) where
     may_then : MayRequest n (is_pinned asked.kind) cpus
     may_then = subst (λ (m : NodeState). MayRequest m (is_pinned asked.kind) cpus) (sym is) may
 
-    create_refused : (e : OrMemory KernelFault) → Launches n.kernel n.parent id cpus asked.homes (Err e) new → cs ≡ n.containers
+    create_refused : lacks_pid n.kernel n.parent id ≡ false → (e : OrMemory KernelFault) → Launches n.kernel n.parent id cpus asked.homes (Err e) new → cs ≡ n.containers
         → NotLaunched cpus now id config e (record n { kernel = new; containers = cs })
-    create_refused e l same =
+    create_refused left e l same =
         subst (λ (m : NodeState). NotLaunched cpus m id config e (record n { kernel = new; containers = cs })) is
         (record {
           said = reads.0;
@@ -150,20 +167,27 @@ module _ (n now : NodeState) (is : n ≡ now) (id : List ℕ) where
           free = free_then free;
           says = reads.2;
           may = may_then;
+          left = left;
           refused = l;
           is = ap (λ (xs : Containers). record n { kernel = new; containers = xs }) same;
         })
 
-    late : (e : OrMemory KernelFault) → NotLaunched cpus now id config e (record n { kernel = new; containers = cs })
+    late : IsNode n → lacks_pid n.kernel n.parent id ≡ false → (e : OrMemory KernelFault)
+        → Launches n.kernel n.parent id cpus asked.homes (Err e) new
+        → NotLaunched cpus now id config e (record n { kernel = new; containers = cs })
         → Places cpus now id bundle config (Err (late_answer e)) (record n { kernel = new; containers = cs })
-    late Memory x = inl x
-    late (Fault fault) x = x
+    late h left Memory l x = inl x
+    late h left (Fault NoPids) l x =
+        absurd
+        (has_pid n.parent id (owners_of n.containers) (other_ids id n.containers (free_then free).new) cpus asked.homes n.kernel new h.holds left l)
+    late h left (Fault fault) l x = x
 
-    pub create_late : (e : OrMemory KernelFault) → Launches n.kernel n.parent id cpus asked.homes (Err e) new → cs ≡ n.containers
+    pub create_late : IsNode n → lacks_pid n.kernel n.parent id ≡ false → (e : OrMemory KernelFault) → Launches n.kernel n.parent id cpus asked.homes (Err e) new → cs ≡ n.containers
         → (answer : OrMemory NodeFault) → answer ≡ late_answer e
         → Places cpus now id bundle config (Err answer) (record n { kernel = new; containers = cs })
-    create_late e l same answer a =
-        subst (λ (x : OrMemory NodeFault). Places cpus now id bundle config (Err x) (record n { kernel = new; containers = cs })) (sym a) (late e (create_refused e l same))
+    create_late h left e l same answer a =
+        subst (λ (x : OrMemory NodeFault). Places cpus now id bundle config (Err x) (record n { kernel = new; containers = cs })) (sym a)
+        (late h left e l (create_refused left e l same))
 
     pub refused_node : IsNode n → (e : OrMemory KernelFault) → Launches n.kernel n.parent id cpus asked.homes (Err e) new → cs ≡ n.containers
         → IsNode (record n { kernel = new; containers = cs })

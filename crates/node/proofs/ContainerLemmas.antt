@@ -18,23 +18,23 @@ use Rattle.node.specs.declared.container.Container.{Container}
 use Rattle.node.specs.NodeState.{ContainerState}
 use Rattle.node.specs.Owners.{Owner, owner_of, owners_of}
 use Rattle.node.specs.IsNode.{HaveOtherIds, IsOwned}
-use Rattle.node.specs.Viewed.{seen, entry_seen, all_seen}
+use Rattle.node.specs.Viewed.{viewed, entry_seen, all_seen}
 use Rattle.node.proofs.ListLemmas.{all_of_map, of_all_map}
 
 -- the test of a stored key
 abbrev pub is_id : List ℕ → String Global → Bool
 is_id id k = bytes_eq id (string_bytes k)
 
-pub looked_up : (id : List ℕ) (es : List (String Global × Container)) → lookup (bytes_eq id) (all_seen es) ≡ option_map seen (lookup (is_id id) es)
+pub looked_up : (id : List ℕ) (es : List (String Global × Container)) → lookup (bytes_eq id) (all_seen es) ≡ option_map viewed (lookup (is_id id) es)
 looked_up id [] = refl
 looked_up id (e ∷ es) =
-    elim (is_id id e.0) as (λ b. cond b (Some (seen e.1)) (lookup (bytes_eq id) (all_seen es)) ≡ option_map seen (cond b (Some e.1) (lookup (is_id id) es)))
+    elim (is_id id e.0) as (λ b. cond b (Some (viewed e.1)) (lookup (bytes_eq id) (all_seen es)) ≡ option_map viewed (cond b (Some e.1) (lookup (is_id id) es)))
     [ true ↦ refl | false ↦ looked_up id es ]
 
-pub written : (id : List ℕ) (w : Container) (es : List (String Global × Container)) → all_seen (set_value (is_id id) es w) ≡ set_value (bytes_eq id) (all_seen es) (seen w)
+pub written : (id : List ℕ) (w : Container) (es : List (String Global × Container)) → all_seen (set_value (is_id id) es w) ≡ set_value (bytes_eq id) (all_seen es) (viewed w)
 written id w [] = refl
 written id w (e ∷ es) =
-    elim (is_id id e.0) as (λ b. all_seen (cond b ((e.0, w) ∷ es) (e ∷ set_value (is_id id) es w)) ≡ cond b ((string_bytes e.0, seen w) ∷ all_seen es) (entry_seen e ∷ set_value (bytes_eq id) (all_seen es) (seen w)))
+    elim (is_id id e.0) as (λ b. all_seen (cond b ((e.0, w) ∷ es) (e ∷ set_value (is_id id) es w)) ≡ cond b ((string_bytes e.0, viewed w) ∷ all_seen es) (entry_seen e ∷ set_value (bytes_eq id) (all_seen es) (viewed w)))
     [ true ↦ refl | false ↦ ap (λ later. entry_seen e ∷ later) (written id w es) ]
 
 pub removed : (id : List ℕ) (es : List (String Global × Container)) → all_seen (remove_entry (is_id id) es) ≡ remove_entry (bytes_eq id) (all_seen es)
@@ -44,11 +44,11 @@ removed id (e ∷ es) =
     [ true ↦ refl | false ↦ ap (λ later. entry_seen e ∷ later) (removed id es) ]
 
 pub pushed : {S : Type 0} (m : IndexMap (String Global) Container S) (k : String Global) (v : Container) → lookup (string_eq k) m.entries ≡ None
-    → all_seen (insert_entry string_eq m.entries k v) ≡ all_seen m.entries ++ (string_bytes k, seen v) ∷ []
+    → all_seen (insert_entry string_eq m.entries k v) ≡ all_seen m.entries ++ (string_bytes k, viewed v) ∷ []
 pushed m k v absent = ap all_seen (insert_entry-new string_eq m k v absent) ∙ map-append entry_seen m.entries ((k, v) ∷ [])
 
 -- the value that is found, behind a reference
-pub seen_copied : (r : Option (Bor Container)) → option_map (λ c. seen c.now) r ≡ option_map seen (option_copied r)
+pub seen_copied : (r : Option (Bor Container)) → option_map (λ c. viewed c.now) r ≡ option_map viewed (option_copied r)
 seen_copied None = refl
 seen_copied (Some c) = refl
 
@@ -57,7 +57,7 @@ pub not_kept : (k : String Global) (es : List (String Global × Container)) → 
 not_kept k es e = by (lookup (is_id (string_bytes k)) es) refl where
   by : (o : Option Container) → lookup (is_id (string_bytes k)) es ≡ o → lookup (string_eq k) es ≡ None
   by None was = was
-  by (Some c) was = absurd (none-some (seen c) (sym e ∙ looked_up (string_bytes k) es ∙ ap (option_map seen) was))
+  by (Some c) was = absurd (none-some (viewed c) (sym e ∙ looked_up (string_bytes k) es ∙ ap (option_map viewed) was))
 
 abbrev Entries : Type 0
 Entries = List (List ℕ × ContainerState)

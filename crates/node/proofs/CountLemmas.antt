@@ -5,6 +5,7 @@ use Rattle.cpu_set.specs.Ids.{Ids}
 use Rattle.cpuset_tree.specs.declared.Group.{Group}
 use Rattle.cpuset_tree.specs.Groups.{child_of}
 use Rattle.kernel_model.specs.declared.KernelFault.{KernelFault}
+use Rattle.kernel_model.specs.declared.KernelFault.TheVariants.{NoPids}
 use Rattle.kernel_model.specs.KernelState.{KernelState}
 use Rattle.kernel_model.specs.Cases.{rise, rise_or_memory as kernel_rise}
 use Rattle.kernel_model.specs.KernelLemmas.{writes_count}
@@ -93,6 +94,7 @@ pub place_counts : (cpus : Ids) (old : NodeState) (id bundle config : List ℕ) 
 place_counts cpus old id bundle config (Ok pid) new h = launch_done old.kernel old.parent id cpus h.asked.homes (h.group, pid) new.kernel h.launched
 place_counts cpus old id bundle config (Err Memory) new h =
     elim h [ inl late ↦ launch_error old.kernel old.parent id cpus late.asked.homes Memory new.kernel late.refused | inr early ↦ kept_count old new early.2 ]
+place_counts cpus old id bundle config (Err (Fault (Kernel NoPids))) new h = kept_count old new h.is
 place_counts cpus old id bundle config (Err (Fault (Kernel fault))) new h =
     launch_error old.kernel old.parent id cpus h.asked.homes (Fault fault) new.kernel h.refused
 place_counts cpus old id bundle config (Err (Fault Busy)) new h = kept_count old new h.1

@@ -10,11 +10,11 @@ use Rattle.std.specs.List.{AllByRecursion, AllZip}
 use Rattle.std.specs.FinSet as set
 use Rattle.cpu_set.specs.Ids.{Ids, IsDisjoint}
 use Rattle.cpu_set.specs.Members.{InRange, cpus, members}
-use Rattle.cpu_set.specs.Pointwise.{contains-intersection, is_subset-contains, contains-is_subset}
+use Rattle.cpu_set.specs.PointwiseLaws.{contains-intersection, is_subset-contains, contains-is_subset}
 use Rattle.kernel_model.specs.KernelState.{KernelState}
 use Rattle.machine.specs.Cores.{cores_in, cpus_of_cores, IsWhole}
-use Rattle.machine.specs.CoreCounts.{cores_are_alike, cores_in_range, len-whole_in}
-use Rattle.machine.specs.CoreSums.{cores_weigh_alike, cores_are_near}
+use Rattle.machine.specs.CoreCountLaws.{cores_are_alike, cores_in_range, len-whole_in}
+use Rattle.machine.specs.CoreSumLaws.{cores_weigh_alike, cores_are_near}
 use Rattle.machine.specs.Layout.{Layout}
 use Rattle.machine.specs.Present.{present, IsPresent}
 use Rattle.machine.specs.Weight.{weight as distance_home}

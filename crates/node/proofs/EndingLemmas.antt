@@ -7,6 +7,7 @@ use Rattle.faults.specs.declared.OrMemory.{OrMemory}
 use Rattle.faults.specs.declared.OrMemory.TheVariants.{Memory, Fault}
 use Rattle.cpu_set.specs.Ids.{Ids}
 use Rattle.kernel_model.specs.declared.KernelFault.{KernelFault}
+use Rattle.kernel_model.specs.declared.KernelFault.TheVariants.{NoPids}
 use Rattle.kernel_model.specs.declared.Call.{Call}
 use Rattle.kernel_model.specs.declared.Call.TheVariants as call
 use Rattle.kernel_model.specs.declared.Reply.{Reply}
@@ -90,6 +91,7 @@ module _ (law : StepsLeave) (ends : EndsWithin) (o : Ongoing) (old : NodeState) 
     place_goes cpus id bundle config (Ok pid) c = open_already c.free.settled
     place_goes cpus id bundle config (Err Memory) (inl n) = open_already n.free.settled
     place_goes cpus id bundle config (Err Memory) (inr same) = unchanged same.2
+    place_goes cpus id bundle config (Err (Fault (Kernel NoPids))) same = unchanged same.is
     place_goes cpus id bundle config (Err (Fault (Kernel fault))) n = open_already n.free.settled
     place_goes cpus id bundle config (Err (Fault fault)) same = unchanged same.1
 

@@ -5,7 +5,7 @@ use Rattle.std.specs.Prelude.{Option, Some, None, MatchOption, Result, Err}
 use Rattle.std.specs.List.{AllByRecursion, list_any}
 use Rattle.std.specs.FinSet as set
 use Rattle.cpu_set.specs.Ids.{Ids, NoneFrom, IsFirstFrom}
-use Rattle.cpu_set.specs.Pointwise.{contains-empty, contains-union, contains-difference, is_subset-contains}
+use Rattle.cpu_set.specs.PointwiseLaws.{contains-empty, contains-union, contains-difference, is_subset-contains}
 use Rattle.cpuset_tree.specs.Groups.{has_group}
 use Rattle.kernel_model.specs.KernelState.{KernelState}
 use Rattle.machine.specs.Present.{present}
@@ -23,7 +23,7 @@ use Rattle.node.specs.Calls.{Places, Creates}
 use Rattle.node.specs.MayRequest.{keeps, is_free_cpu, AreFreeCpus, MayRequest, IsLeastTaken}
 use Rattle.node.proofs.LaunchLemmas.{IsClear, MayHold}
 use Rattle.std.proofs.Math.Bool.{and-false, or_assoc, or-false}
-use Rattle.faults.specs.Tests.{without, without_parts}
+use Rattle.faults.specs.TestLaws.{without, without_parts}
 
 all_true : (a b c : Bool) → a ≡ true → b ≡ true → c ≡ true → (a && (b && c)) ≡ true
 all_true true true true p q r = refl

@@ -1,7 +1,8 @@
 -- What the kernel can refuse of a `create`, and of a new node.
-use Rattle.std.proofs.Common.{◌≡◌, inl, inr, ℕ, ◌<◌, List, Option, Some, None, refl, sym, ap, ◌∙◌, subst}
+use Rattle.std.proofs.Common.{◌≡◌, inl, inr, ℕ, ◌<◌, ◌==◌, Bool, true, ◌&&◌, List, Option, Some, None, refl, sym, ap, ◌∙◌, subst, arith}
 use Rattle.std.proofs.lemmas.Bool.{false≢true}
-use Rattle.std.specs.Prelude.{false, is_some, is_none, Ok, Err, codes}
+use Rattle.std.proofs.lemmas.Bool.Decides.{nat_tests}
+use Rattle.std.specs.Prelude.{false, not, if◌then◌else◌, option_map, is_some, is_none, Ok, Err, codes}
 use Rattle.std.specs.List.{AllByRecursion}
 use Rattle.std.specs.Str.{bytes_eq}
 use Rattle.faults.specs.declared.OrMemory.{OrMemory}
@@ -9,22 +10,25 @@ use Rattle.faults.specs.declared.OrMemory.TheVariants.{Memory, Fault}
 use Rattle.cpu_set.specs.Ids.{Ids}
 use Rattle.cpuset_tree.specs.declared.TheConstants.{SERIAL_LIMIT}
 use Rattle.cpuset_tree.specs.declared.Group.{Group}
-use Rattle.cpuset_tree.specs.Groups.{child_of, is_root, is_root_entry, root_of}
+use Rattle.cpuset_tree.specs.declared.TreeFault.TheVariants as tree
+use Rattle.cpuset_tree.specs.Groups.{has_group, child_of, is_root, is_root_entry, root_of}
 use Rattle.cpuset_tree.specs.TreeLaws.{IsChild}
 use Rattle.proctable.specs.declared.TheConstants.{LAST_PID}
 use Rattle.proctable.specs.TableState.{TableState}
+use Rattle.proctable.specs.TableAnswers.{has_pids}
 use Rattle.kernel_model.specs.declared.KernelFault.{KernelFault}
 use Rattle.kernel_model.specs.declared.KernelFault.TheVariants.{NoGroup, Exists, IsRoot, NoSerials, NoPids, Failed}
 use Rattle.kernel_model.specs.KernelState.{KernelState, counted}
 use Rattle.kernel_model.specs.WellFormed.{IsWellFormed}
-use Rattle.kernel_model.specs.Refusals.{write_refusal}
+use Rattle.kernel_model.specs.Faults.{of_tree}
+use Rattle.kernel_model.specs.Refusals.{make_refusal, write_refusal}
 use Rattle.kernel_model.specs.RefusalLemmas.{refusals_have_causes}
 use Rattle.kernel_model.specs.Cases.{MakesGroup, WritesCpus, WritesMems, Spawns}
 use Rattle.node.specs.declared.fault.NodeFault.TheVariants.{Kernel}
 use Rattle.node.specs.NodeState.{NodeState}
 use Rattle.node.specs.Owners.{Owner, owners_of}
 use Rattle.node.specs.IsNode.{Holds, IsNode}
-use Rattle.node.specs.Launch.{FindsOr, AtOnce, WritesSets, Launches}
+use Rattle.node.specs.Launch.{FindsOr, AtOnce, WritesSets, Launches, is_no_serials, lacks_pid}
 use Rattle.node.specs.Calls.{OpensNot, NotLaunched}
 use Rattle.node.specs.OpenCause.{OpenCause}
 use Rattle.node.specs.Making.{PlacesFailLate}
@@ -40,6 +44,22 @@ Stood k parent name new Failed = Unit {0}
 Stood k parent name new NoSerials = (child_of k.tree parent name ≡ None) × (k.tree.next_serial ≡ SERIAL_LIMIT) × (new ≡ counted k)
 Stood k parent name new NoPids = LAST_PID < k.table.next_pid
 Stood k parent name new fault = ⊥
+
+-- that a child of the name is there comes before want of serials
+named_first : (there named last : Bool) → named ≡ true
+    → is_no_serials (option_map of_tree (if not there then Some tree.NoGroup else if named then Some tree.Exists else if last then Some tree.NoSerials else None)) ≡ false
+named_first true true last e = refl
+named_first true false last e = absurd (false≢true e)
+named_first false named last e = refl
+
+-- if a pid lacks, none is left
+none_of : (a b : Bool) → (not a && not b) ≡ true → a ≡ false
+none_of true b e = absurd (false≢true e)
+none_of false b e = refl
+
+pids_spent : (k : KernelState) (parent : Group) (name : List ℕ) → lacks_pid k parent name ≡ true → LAST_PID < k.table.next_pid
+pids_spent k parent name lacks =
+    let none : has_pids k.table ≡ false = none_of (has_pids k.table) (is_no_serials (make_refusal k parent name)) lacks in grind (arith, nat_tests)
 
 -- nothing stands against a write of a group's child, which can fail
 module _ (parent : Group) (name : List ℕ) (g : Group) (k : KernelState) (c : IsChild k.tree parent name g) where
@@ -109,6 +129,33 @@ module _ (parent : Group) (name : List ℕ) (owners : List Owner) (new_id : AllB
       spawn_late g written new there.ready fault spawns old
       (set_table g cpus mems mid written (Ok done) writes ∙ found_table (child_of old.tree parent name) old parent name (Ok g) mid found)
 
+  -- where a group is found or made, and where it is refused for want of a pid, a serial is left or none is needed
+  found_serials : (old mid : KernelState) (o : Option Group) → child_of old.tree parent name ≡ o → (g : Group) → FindsOr o old parent name (Ok g) mid
+      → is_no_serials (make_refusal old parent name) ≡ false
+  found_serials old mid (Some other) was g f =
+      named_first (has_group old.tree parent) (is_some (child_of old.tree parent name)) (old.tree.next_serial == SERIAL_LIMIT) (ap is_some was)
+  found_serials old mid None was g f = ap is_no_serials f.0
+
+  refused_serials : (old mid : KernelState) (o : Option Group) → FindsOr o old parent name (Err (Fault NoPids)) mid
+      → is_no_serials (make_refusal old parent name) ≡ false
+  refused_serials old mid (Some g) f = absurd (let is : Err (Fault NoPids) ≡ Ok g = f.0 in let no : ⊥ = cc is in no)
+  refused_serials old mid None f = ap is_no_serials f.0
+
+  launch_serials : (cpus mems : Ids) (old new : KernelState) → Launches old parent name cpus mems (Err (Fault NoPids)) new
+      → is_no_serials (make_refusal old parent name) ≡ false
+  launch_serials cpus mems old new (inl refused) = refused_serials old new (child_of old.tree parent name) refused
+  launch_serials cpus mems old new (inr (g, mid, found, starts)) = found_serials old mid (child_of old.tree parent name) refl g found
+
+  -- so a launch is not refused for want of a pid unless that was told before it
+  pub has_pid : (cpus mems : Ids) (old new : KernelState) → Holds old parent owners → lacks_pid old parent name ≡ false
+      → Launches old parent name cpus mems (Err (Fault NoPids)) new → ⊥
+  has_pid cpus mems old new h left l =
+      let spent : LAST_PID < old.table.next_pid = launch_late cpus mems old new h NoPids l in
+      let none : has_pids old.table ≡ false = grind (arith, nat_tests) in
+      let lacks : lacks_pid old parent name ≡ true =
+      ap (λ b. not b && not (is_no_serials (make_refusal old parent name))) none ∙ ap not (launch_serials cpus mems old new l) in
+      false≢true (sym left ∙ lacks)
+
 -- of a `create` or an `adopt`, with what is counted
 module _ (cpus : Ids) (old new : NodeState) (id config : List ℕ) (h : IsNode old) where
   stood : (fault : KernelFault) → NotLaunched cpus old id config (Fault fault) new → Stood old.kernel old.parent id new.kernel fault
@@ -121,7 +168,7 @@ places_fail_late cpus old id bundle config Failed new h n = place_counts cpus ol
 places_fail_late cpus old id bundle config NoSerials new h n =
     let s = stood cpus old new id config h NoSerials n in
     (s.0, s.1, n.is ∙ ap (λ (k : KernelState). record old { kernel = k }) s.2)
-places_fail_late cpus old id bundle config NoPids new h n = stood cpus old new id config h NoPids n
+places_fail_late cpus old id bundle config NoPids new h n = (pids_spent old.kernel old.parent id n.lacks, n.is)
 places_fail_late cpus old id bundle config fault new h n = absurd (stood cpus old new id config h fault n)
 
 -- of a new node

@@ -12,6 +12,7 @@ use Rattle.cpuset_tree.specs.TreeLemmas.{found_is_child}
 use Rattle.proctable.specs.Processes.{count_in}
 use Rattle.proctable.specs.TableLemmas.{none_counted_where_none}
 use Rattle.kernel_model.specs.declared.KernelFault.{KernelFault}
+use Rattle.kernel_model.specs.declared.KernelFault.TheVariants.{NoPids}
 use Rattle.kernel_model.specs.KernelState.{KernelState}
 use Rattle.kernel_model.specs.Cases.{WritesCpus, WritesMems, Spawns}
 use Rattle.kernel_model.specs.KernelLemmas.{writes_leave_groups, writes_keep_processes, writes_keep_tree, calls_leave_processes}
@@ -155,6 +156,7 @@ module _ (cpus : Ids) (old : NodeState) (h : IsNode old) (id config : List ℕ) 
   pub place_leaves : (bundle : List ℕ) (r : Result ℕ (OrMemory NodeFault)) (new : NodeState) → Places cpus old id bundle config r new → CreateLeaves old id r new
   place_leaves bundle (Ok pid) new c = tt
   place_leaves bundle (Err Memory) new c = elim c [ inl n ↦ late Memory new n | inr e ↦ early new e.0 e.2 ]
+  place_leaves bundle (Err (Fault (Kernel NoPids))) new c = c.is
   place_leaves bundle (Err (Fault (Kernel fault))) new c = late (Fault fault) new c
   place_leaves bundle (Err (Fault Busy)) new c = c.1
   place_leaves bundle (Err (Fault BadId)) new c = c.1

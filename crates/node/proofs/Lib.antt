@@ -35,3 +35,7 @@ pub mod MakingLemmas
 pub mod LateLemmas
 pub mod AgainLemmas
 pub mod RewriteLemmas
+pub mod SizeLemmas
+pub mod StandingLemmas
+pub mod RetryLemmas
+pub mod DisturbLemmas

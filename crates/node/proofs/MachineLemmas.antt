@@ -4,6 +4,7 @@ use Rattle.std.specs.List.{AllByRecursion}
 use Rattle.std.specs.Prelude.{map, Result, Ok, Err}
 use Rattle.cpu_set.specs.Ids.{Ids}
 use Rattle.kernel_model.specs.declared.KernelFault.{KernelFault}
+use Rattle.kernel_model.specs.declared.KernelFault.TheVariants.{NoPids}
 use Rattle.faults.specs.declared.OrMemory.{OrMemory}
 use Rattle.faults.specs.declared.OrMemory.TheVariants.{Memory, Fault}
 use Rattle.rows.specs.Scaled.{ScaledRowsWeigh}
@@ -41,6 +42,7 @@ module _ (old : NodeState) (h : IsNode old) (new : NodeState) where
   place_keeps : (cpus : Ids) (id bundle config : List ℕ) (r : Result ℕ (OrMemory NodeFault)) → Places cpus old id bundle config r new → IsNode new
   place_keeps cpus id bundle config (Ok pid) c = moved _ c.is (created_node old h new.kernel cpus id bundle c.said c.asked c.group pid c.free c.says.fits c.may c.launched)
   place_keeps cpus id bundle config (Err Memory) c = elim c [ inl n ↦ not_launched cpus id config Memory n | inr e ↦ unchanged e.2 ]
+  place_keeps cpus id bundle config (Err (Fault (Kernel NoPids))) c = unchanged c.is
   place_keeps cpus id bundle config (Err (Fault (Kernel fault))) c = not_launched cpus id config (Fault fault) c
   place_keeps cpus id bundle config (Err (Fault Busy)) c = unchanged c.1
   place_keeps cpus id bundle config (Err (Fault BadId)) c = unchanged c.1

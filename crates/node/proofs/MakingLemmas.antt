@@ -13,6 +13,7 @@ use Rattle.cpuset_tree.specs.Groups.{child_of, requested_cpus}
 use Rattle.proctable.specs.TableState.{TableState}
 use Rattle.proctable.specs.Processes.{is_alive}
 use Rattle.kernel_model.specs.declared.KernelFault.{KernelFault}
+use Rattle.kernel_model.specs.declared.KernelFault.TheVariants.{NoPids}
 use Rattle.kernel_model.specs.KernelState.{KernelState}
 use Rattle.kernel_model.specs.KernelLemmas.{writes_keep_processes}
 use Rattle.apply_plan.specs.Holders.{AreApart, HasSome, IsSafe}
@@ -78,6 +79,7 @@ places_are_calls cpus old id bundle config (Ok pid) new c =
 places_are_calls cpus old id bundle config (Err Memory) new (inl n) =
     launch_calls old.kernel old.parent id cpus n.asked.homes (Err Memory) new.kernel n.refused
 places_are_calls cpus old id bundle config (Err Memory) new (inr same) = ap (λ (n : NodeState). n.kernel) same.2
+places_are_calls cpus old id bundle config (Err (Fault (Kernel NoPids))) new same = ap (λ (n : NodeState). n.kernel) same.is
 places_are_calls cpus old id bundle config (Err (Fault (Kernel fault))) new n =
     launch_calls old.kernel old.parent id cpus n.asked.homes (Err (Fault fault)) new.kernel n.refused
 places_are_calls cpus old id bundle config (Err (Fault fault)) new same = ap (λ (n : NodeState). n.kernel) same.1
@@ -226,5 +228,6 @@ pub places_stay_safe : PlacesStaySafe
 places_stay_safe cpus old id bundle config (Ok pid) new c h = created_safe cpus old new id h bundle config pid c
 places_stay_safe cpus old id bundle config (Err Memory) new (inl n) h = not_launched_safe cpus old new id h config Memory n
 places_stay_safe cpus old id bundle config (Err Memory) new (inr same) h = tt
+places_stay_safe cpus old id bundle config (Err (Fault (Kernel NoPids))) new same h = tt
 places_stay_safe cpus old id bundle config (Err (Fault (Kernel fault))) new n h = not_launched_safe cpus old new id h config (Fault fault) n
 places_stay_safe cpus old id bundle config (Err (Fault fault)) new same h = tt

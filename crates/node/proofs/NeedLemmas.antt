@@ -8,21 +8,21 @@ use Rattle.std.specs.Prelude.{slice_get}
 use Rattle.std.specs.List.{AllByRecursion, list_all}
 use Rattle.std.specs.FinSet as set
 use Rattle.cpu_set.specs.SetLaws.{empty_of_none}
-use Rattle.cpu_set.specs.Pointwise.{is_subset-contains}
+use Rattle.cpu_set.specs.PointwiseLaws.{is_subset-contains}
 use Rattle.cpu_set.specs.declared.TheConstants.{CPU_LIMIT}
-use Rattle.certificate.specs.Cpus.{len_small}
+use Rattle.certificate.specs.CpuLaws.{len_small}
 use Rattle.certificate.specs.IsShortage.{asked, chosen, IsShortage}
 use Rattle.certificate.specs.Limits.{row_fits, rows_fit}
 use Rattle.certificate.specs.RowView.{RowView}
 use Rattle.certificate.specs.declared.limits.TheConstants.{MAX_DEMAND, MAX_ROWS}
 use Rattle.machine.specs.Cores.{core_of, cpus_of_core}
-use Rattle.machine.specs.CoreCounts.{core_in_range}
+use Rattle.machine.specs.CoreCountLaws.{core_in_range}
 use Rattle.machine.specs.Layout.{Layout}
 use Rattle.machine.specs.Present.{IsPresent}
 use Rattle.node.specs.IsNode.{IsMachine}
 use Rattle.node.proofs.AskingLemmas.{all_given, fewer_given}
 use Rattle.node.proofs.ListLemmas.{all_of}
-use Rattle.certificate.specs.RisingNumbers.{few_numbers}
+use Rattle.certificate.specs.RisingNumberLaws.{few_numbers}
 
 -- a core has no more CPUs than a machine
 module _ (m : Layout) (h : IsMachine m) where

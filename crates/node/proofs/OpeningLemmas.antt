@@ -5,7 +5,7 @@ use Rattle.cpu_set.specs.Ids.{Ids}
 use Rattle.cpu_set.specs.Members.{InRange}
 use Rattle.certificate.specs.IsPlan.{Meets, IsPlan}
 use Rattle.certificate.specs.RowView.{RowView}
-use Rattle.machine.specs.CoreCounts.{single_cpus_of_cores}
+use Rattle.machine.specs.CoreCountLaws.{single_cpus_of_cores}
 use Rattle.machine.specs.IsSound.{IsSound}
 use Rattle.machine.specs.Layout.{Layout}
 use Rattle.rows.specs.Weighs.{RowsWeigh}

@@ -5,7 +5,7 @@ use Rattle.std.specs.Prelude.{map, drop, filter, slice_index_or, is_none}
 use Rattle.std.specs.List.{AllByRecursion, AllZip}
 use Rattle.std.specs.FinSet as set
 use Rattle.cpu_set.specs.Ids.{Ids, IsDisjoint, is_empty}
-use Rattle.cpu_set.specs.Pointwise.{contains-difference, is_subset-contains, contains-is_subset}
+use Rattle.cpu_set.specs.PointwiseLaws.{contains-difference, is_subset-contains, contains-is_subset}
 use Rattle.cpu_set.specs.SetLaws.{empty_of_none, none_of_empty, is_empty-empty, is_empty-some}
 use Rattle.cpuset_tree.specs.declared.Group.{Group}
 use Rattle.cpuset_tree.specs.Groups.{same_group, is_root_entry}
@@ -31,7 +31,7 @@ use Rattle.node.specs.Ongoing.{AreOf, IsSince, IsOngoing}
 use Rattle.node.proofs.DistanceLemmas.{pairs_by_recursion}
 use Rattle.node.proofs.ListLemmas.{all_map, all_of, pairs_map, all_of_map, of_all_map, pairs_of_map, of_pairs_map}
 use Rattle.node.proofs.LaunchLemmas.{names_apart, is_there}
-use Rattle.faults.specs.Tests.{without_parts, without_two, without_none}
+use Rattle.faults.specs.TestLaws.{without_parts, without_two, without_none}
 use Rattle.certificate.specs.PlanFault.{is_held}
 
 abbrev Container : Type 0

@@ -4,7 +4,8 @@ use Rattle.std.proofs.Math.Nat.{mod-lt}
 use Rattle.std.specs.Prelude.{IfSome}
 use Rattle.std.specs.FinSet as set
 use Rattle.certificate.specs.IsShortage.{asked, chosen, offered}
-use Rattle.certificate.specs.Packed.{distance_of, moves_of, packed-parts}
+use Rattle.certificate.specs.Packed.{distance_of, moves_of}
+use Rattle.certificate.specs.PackedLemmas.{packed-parts}
 use Rattle.certificate.specs.declared.weights.Weights.TheVariants.{Plain, WithMoves}
 use Rattle.certificate.specs.Verdict.{AreParts, IsProvedCertificate}
 use Rattle.certificate.specs.declared.certificates.Certificate.{Certificate}

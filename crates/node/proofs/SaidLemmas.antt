@@ -12,6 +12,7 @@ use Rattle.faults.specs.declared.OrMemory.{OrMemory}
 use Rattle.faults.specs.declared.OrMemory.TheVariants.{Memory, Fault}
 use Rattle.cpu_set.specs.Ids.{Ids}
 use Rattle.kernel_model.specs.declared.KernelFault.{KernelFault}
+use Rattle.kernel_model.specs.declared.KernelFault.TheVariants.{NoPids}
 use Rattle.apply_plan.specs.declared.Progress.{Progress}
 use Rattle.apply_plan.specs.declared.Progress.TheVariants.{More, Done}
 use Rattle.apply_plan.specs.Holders.{Pairwise}
@@ -272,6 +273,7 @@ module _ (events : List Event) where
   place_refused : (cpus : Ids) (old new : NodeState) (id bundle config : List ℕ) (error : OrMemory NodeFault) → Places cpus old id bundle config (Err error) new → Keeps old new
   place_refused cpus old new id bundle config Memory c h =
       elim c [ inl n ↦ moved (SaidOf events) (record old { kernel = new.kernel }) new n.is h | inr e ↦ moved (SaidOf events) old new e.2 h ]
+  place_refused cpus old new id bundle config (Fault (Kernel NoPids)) c h = moved (SaidOf events) old new c.is h
   place_refused cpus old new id bundle config (Fault (Kernel fault)) c h = moved (SaidOf events) (record old { kernel = new.kernel }) new c.is h
   place_refused cpus old new id bundle config (Fault Busy) c h = moved (SaidOf events) old new c.1 h
   place_refused cpus old new id bundle config (Fault BadId) c h = moved (SaidOf events) old new c.1 h

@@ -2,8 +2,8 @@
 use Rattle.std.proofs.Common.{◌≡◌, List, [], ◌∷◌, refl, sym, ap, ap₂, ◌∙◌}
 use Rattle.std.specs.FinSet as set
 use Rattle.cpu_set.specs.Ids.{Ids}
-use Rattle.cpu_set.specs.Pointwise.{contains-intersection}
-use Rattle.machine.specs.CoreCounts.{all_are_whole, own_core, single_cores_in}
+use Rattle.cpu_set.specs.PointwiseLaws.{contains-intersection}
+use Rattle.machine.specs.CoreCountLaws.{all_are_whole, own_core, single_cores_in}
 use Rattle.node.specs.NodeState.{NodeState}
 use Rattle.node.specs.IsNode.{IsNode}
 use Rattle.node.specs.Rows.{as_cores}

@@ -5,6 +5,7 @@ use Rattle.cpu_set.specs.Ids.{Ids}
 use Rattle.cpuset_tree.specs.declared.Group.{Group}
 use Rattle.cpuset_tree.specs.Groups.{child_of}
 use Rattle.kernel_model.specs.declared.KernelFault.{KernelFault}
+use Rattle.kernel_model.specs.declared.KernelFault.TheVariants.{NoPids}
 use Rattle.kernel_model.specs.KernelState.{KernelState}
 use Rattle.kernel_model.specs.KernelLemmas.{counts_each_write}
 use Rattle.faults.specs.declared.OrMemory.{OrMemory}
@@ -100,6 +101,7 @@ place_makes cpus old id bundle config (Err Memory) new h =
       | inl late ↦ launch_makes old.kernel old.parent id cpus late.asked.homes Memory new.kernel late.refused
       | inr early ↦ few_writes old new (launch_writes old.kernel old.parent id) early.2
     ]
+place_makes cpus old id bundle config (Err (Fault (Kernel NoPids))) new h = few_writes old new (launch_writes old.kernel old.parent id) h.is
 place_makes cpus old id bundle config (Err (Fault (Kernel fault))) new h =
     launch_makes old.kernel old.parent id cpus h.asked.homes (Fault fault) new.kernel h.refused
 place_makes cpus old id bundle config (Err (Fault Busy)) new h = few_writes old new (launch_writes old.kernel old.parent id) h.1

@@ -7,7 +7,7 @@ use Rattle.cpu_set.specs.Ids.{Ids}
 use Rattle.cpuset_tree.specs.declared.Group.{Group}
 use Rattle.cpuset_tree.specs.Groups.{root_of}
 use Rattle.kernel_model.specs.declared.KernelFault.{KernelFault}
-use Rattle.kernel_model.specs.declared.KernelFault.TheVariants.{Failed}
+use Rattle.kernel_model.specs.declared.KernelFault.TheVariants.{NoPids, Failed}
 use Rattle.kernel_model.specs.KernelState.{KernelState}
 use Rattle.kernel_model.specs.Cases.{EndsGroup, RemovesGroup}
 use Rattle.machine.specs.Layout.{Layout}
@@ -21,7 +21,7 @@ use Rattle.node.specs.declared.fault.NodeFault.TheVariants.{Busy, NoContainer, N
 use Rattle.node.specs.declared.phase.Phase.TheVariants.{Settled}
 use Rattle.node.specs.NodeState.{ContainerState, NodeState, container_of, is_underway}
 use Rattle.node.specs.Status.{is_live}
-use Rattle.node.specs.Launch.{FindsOrMakes, Launches}
+use Rattle.node.specs.Launch.{FindsOrMakes, Launches, lacks_pid}
 use Rattle.node.specs.Owners.{is_pinned}
 use Rattle.node.specs.MayRequest.{MayRequest}
 use Rattle.node.specs.Refusals.{IsFree, PlaceCause}
@@ -53,13 +53,24 @@ pub record Created (cpus : Ids) (old : NodeState) (id bundle config : List ℕ) 
   pub launched : Launches old.kernel old.parent id cpus asked.homes (Ok (group, pid)) new.kernel
   pub is : new ≡ record old { kernel = new.kernel; containers = old.containers ++ (id, new_container bundle said asked group pid) ∷ [] }
 
--- the kernel refused one of its calls, and the container is not there
+-- no pid is left for its first process: nothing is made, and nothing changes
+pub record LacksPid (cpus : Ids) (old : NodeState) (id config : List ℕ) (new : NodeState) : Type 0 where
+  pub said : Said
+  pub asked : Asked
+  pub free : IsFree old id
+  pub says : Says old.machine config said asked
+  pub may : MayRequest old (is_pinned asked.kind) cpus
+  pub lacks : lacks_pid old.kernel old.parent id ≡ true
+  pub is : new ≡ old
+
+-- a pid is left, but the kernel refused one of its calls, and the container is not there
 pub record NotLaunched (cpus : Ids) (old : NodeState) (id config : List ℕ) (error : OrMemory KernelFault) (new : NodeState) : Type 0 where
   pub said : Said
   pub asked : Asked
   pub free : IsFree old id
   pub says : Says old.machine config said asked
   pub may : MayRequest old (is_pinned asked.kind) cpus
+  pub left : lacks_pid old.kernel old.parent id ≡ false
   pub refused : Launches old.kernel old.parent id cpus asked.homes (Err error) new.kernel
   pub is : new ≡ record old { kernel = new.kernel }
 
@@ -72,6 +83,7 @@ late_answer (Fault fault) = Fault (Kernel fault)
 abbrev pub Places : Ids → NodeState → List ℕ → List ℕ → List ℕ → Result ℕ (OrMemory NodeFault) → NodeState → Type 0
 Places cpus old id bundle config (Ok pid) new = Created cpus old id bundle config pid new
 Places cpus old id bundle config (Err Memory) new = NotLaunched cpus old id config Memory new ⊎ (IsFree old id × (bytes_fault config ≡ None) × (new ≡ old))
+Places cpus old id bundle config (Err (Fault (Kernel NoPids))) new = LacksPid cpus old id config new
 Places cpus old id bundle config (Err (Fault (Kernel fault))) new = NotLaunched cpus old id config (Fault fault) new
 Places cpus old id bundle config (Err (Fault fault)) new = PlaceCause cpus old id config fault × (new ≡ old)
 

@@ -1,13 +1,16 @@
 -- How a container's group and first process are made: the kernel's calls in their order, of which the first that is
 -- refused is answered, and no later one is made.
-use Rattle.std.specs.Prelude.{◌≡◌, ◌⊎◌, ℕ, List, Option, Some, None, Result, Ok, Err}
+use Rattle.std.specs.Prelude.{◌≡◌, ◌⊎◌, ℕ, Bool, true, false, not, ◌&&◌, List, Option, Some, None, Result, Ok, Err}
 use Rattle.faults.specs.declared.OrMemory.{OrMemory}
 use Rattle.faults.specs.declared.OrMemory.TheVariants.{Memory, Fault}
 use Rattle.cpu_set.specs.Ids.{Ids}
 use Rattle.cpuset_tree.specs.declared.Group.{Group}
 use Rattle.cpuset_tree.specs.Groups.{child_of}
+use Rattle.proctable.specs.TableAnswers.{has_pids}
 use Rattle.kernel_model.specs.declared.KernelFault.{KernelFault}
+use Rattle.kernel_model.specs.declared.KernelFault.TheVariants.{NoSerials}
 use Rattle.kernel_model.specs.KernelState.{KernelState}
+use Rattle.kernel_model.specs.Refusals.{make_refusal}
 use Rattle.kernel_model.specs.Cases.{MakesGroup, WritesCpus, WritesMems, Spawns}
 
 -- one call behind another: the first is refused and that is the answer, or the second is made in the state that the first
@@ -22,6 +25,16 @@ abbrev pub AtOnce : {A : Type 0} → (Result A KernelFault → KernelState → T
 AtOnce Call (Ok value) new = Call (Ok value) new
 AtOnce Call (Err Memory) new = ⊥
 AtOnce Call (Err (Fault fault)) new = Call (Err fault) new
+
+-- whether it is want of serials
+abbrev pub is_no_serials : Option KernelFault → Bool
+is_no_serials (Some NoSerials) = true
+is_no_serials cause = false
+
+-- whether no pid is left for a process of the child of this name, and that is the first thing that stands against it: want of
+-- a serial comes before it, if the child is yet to be made
+abbrev pub lacks_pid : KernelState → Group → List ℕ → Bool
+lacks_pid k parent name = not (has_pids k.table) && not (is_no_serials (make_refusal k parent name))
 
 -- the child of this name where there is one, else a new group
 abbrev pub FindsOr : Option Group → KernelState → Group → List ℕ → Result Group (OrMemory KernelFault) → KernelState → Type 0

@@ -3,6 +3,7 @@ use Rattle.std.specs.Prelude.{◌≡◌, ◌⊎◌, ℕ, cond, List, Some, Resul
 use Rattle.cpuset_tree.specs.declared.Group.{Group}
 use Rattle.cpuset_tree.specs.Groups.{entry_of, child_of}
 use Rattle.proctable.specs.Processes.{count_in}
+use Rattle.kernel_model.specs.declared.KernelFault.TheVariants.{NoPids}
 use Rattle.kernel_model.specs.Cases.{is_failed}
 use Rattle.kernel_model.specs.KernelState.{KernelState}
 use Rattle.faults.specs.declared.OrMemory.{OrMemory}
@@ -33,10 +34,11 @@ pub record LeavesAtMostAGroup (old : KernelState) (parent : Group) (name : List 
   pub groups : (g : Group) → (entry_of new.tree g ≡ entry_of old.tree g) ⊎ (child_of new.tree parent name ≡ Some g)
   pub empty : (g : Group) → child_of new.tree parent name ≡ Some g → count_in new.table g ≡ 0
 
--- what a refused `create` or `adopt` leaves: all as it was, or at most a group, once an allocation failed or the kernel
--- refused
+-- what a refused `create` or `adopt` leaves: all as it was, also if no pid was left; or at most a group, once an allocation
+-- failed or the kernel refused else
 abbrev pub CreateLeaves : NodeState → List ℕ → Result ℕ (OrMemory NodeFault) → NodeState → Type 0
 CreateLeaves old id (Ok pid) new = Unit {0}
 CreateLeaves old id (Err Memory) new = LeavesAtMostAGroup old.kernel old.parent id new.kernel × (new ≡ record old { kernel = new.kernel })
+CreateLeaves old id (Err (Fault (Kernel NoPids))) new = new ≡ old
 CreateLeaves old id (Err (Fault (Kernel fault))) new = LeavesAtMostAGroup old.kernel old.parent id new.kernel × (new ≡ record old { kernel = new.kernel })
 CreateLeaves old id (Err (Fault fault)) new = new ≡ old

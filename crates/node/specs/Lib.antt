@@ -29,7 +29,10 @@ pub mod Asking
 pub mod WithoutCores
 pub mod Proved
 pub mod Questions
+pub mod Standing
+pub mod Disturbs
 pub mod Machine
+pub mod Retries
 pub mod Said
 pub mod Served
 pub mod Ending

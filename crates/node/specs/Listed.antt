@@ -12,8 +12,8 @@ abbrev pub entry_listed : KernelState → List ℕ × ContainerState → List �
 entry_listed k e = (e.0, status_of k e.1)
 
 -- what `list` answers: each id with its status
-abbrev pub listed : NodeState → List (List ℕ × Status)
-listed n = map (entry_listed n.kernel) n.containers
+abbrev pub listing : NodeState → List (List ℕ × Status)
+listing n = map (entry_listed n.kernel) n.containers
 
 -- a status is stored as one of three
 abbrev pub of_status : Status → Option Bool

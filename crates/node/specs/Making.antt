@@ -68,6 +68,7 @@ place_states cpus old id bundle config (Ok pid) new c =
 place_states cpus old id bundle config (Err Memory) new (inl n) =
     launch_states old.kernel old.parent id cpus n.asked.homes (Err Memory) new.kernel n.refused
 place_states cpus old id bundle config (Err Memory) new (inr same) = []
+place_states cpus old id bundle config (Err (Fault (Kernel NoPids))) new same = []
 place_states cpus old id bundle config (Err (Fault (Kernel fault))) new n =
     launch_states old.kernel old.parent id cpus n.asked.homes (Err (Fault fault)) new.kernel n.refused
 place_states cpus old id bundle config (Err (Fault fault)) new same = []
@@ -100,12 +101,12 @@ PlacesStaySafe =
 
 -- what a refusal of the kernel can be, of a `create` or an `adopt` against which nothing stood. A write failed, which is
 -- counted. Or no serial was left for a group of this id, and there was none; then all is as before but the count of writes.
--- Or no pid was left.
+-- Or no pid was left; then all is as before.
 abbrev pub LateCause : NodeState → List ℕ → KernelFault → NodeState → Type 0
 LateCause old id Failed new = new.kernel.failures ≡ old.kernel.failures + 1
 LateCause old id NoSerials new =
     (child_of old.kernel.tree old.parent id ≡ None) × (old.kernel.tree.next_serial ≡ SERIAL_LIMIT) × (new ≡ record old { kernel = counted old.kernel })
-LateCause old id NoPids new = LAST_PID < old.kernel.table.next_pid
+LateCause old id NoPids new = (LAST_PID < old.kernel.table.next_pid) × (new ≡ old)
 LateCause old id fault new = ⊥
 
 -- the kernel refuses a `create` or an `adopt` for nothing else

@@ -9,7 +9,7 @@ use Rattle.node.specs.declared.container.Status.{Status}
 use Rattle.node.specs.declared.phase.Phase.{Phase}
 use Rattle.node.specs.declared.sets.Sets.{Sets}
 use Rattle.node.specs.NodeState.{NodeState}
-use Rattle.node.specs.Listed.{listed}
+use Rattle.node.specs.Listed.{listing}
 use Rattle.node.specs.Rebalance.{ShowsCertificate}
 use Rattle.node.specs.Sets.{HasSets}
 use Rattle.node.specs.Shown.{Shows}
@@ -26,7 +26,7 @@ pub data Question : Type 0 where
 -- what the node answers to a question
 abbrev pub Answers : NodeState → Question → Type 0
 Answers n (State id answer) = Shows n id answer
-Answers n (ListAll answer) = answer ≡ listed n
+Answers n (ListAll answer) = answer ≡ listing n
 Answers n (SetsOf id answer) = HasSets n id answer
 Answers n (Pool answer) = answer ≡ n.pool
 Answers n (PhaseIs answer) = answer ≡ n.phase

@@ -6,11 +6,11 @@ use Rattle.node.specs.declared.ongoing.Ongoing.{Ongoing as Kept}
 use Rattle.node.specs.NodeState.{ContainerState, Ongoing}
 
 -- a container of the code as a plain value
-abbrev pub seen : Container → ContainerState
-seen c = record { bundle = string_bytes c.bundle; demand = c.demand; runnable = c.runnable; group = c.group; pid = c.pid; started = c.started }
+abbrev pub viewed : Container → ContainerState
+viewed c = record { bundle = string_bytes c.bundle; demand = c.demand; runnable = c.runnable; group = c.group; pid = c.pid; started = c.started }
 
 abbrev pub entry_seen : String Global × Container → List ℕ × ContainerState
-entry_seen e = (string_bytes e.0, seen e.1)
+entry_seen e = (string_bytes e.0, viewed e.1)
 
 -- the containers of the code as plain values
 abbrev pub all_seen : List (String Global × Container) → List (List ℕ × ContainerState)

@@ -4,7 +4,7 @@ ghost use Rattle.std.specs.Map.{lookup, set_value, remove_entry};
 ghost use Rattle.std.specs.Str.{bytes_eq};
 ghost use Rattle.indexmap.specs.IndexMap.{spare};
 ghost use Rattle.node.specs.NodeState.{ContainerState};
-ghost use Rattle.node.specs.Viewed.{seen, all_seen};
+ghost use Rattle.node.specs.Viewed.{viewed, all_seen};
 
 use crate::container::Container;
 use demand::Demand;
@@ -13,7 +13,7 @@ use std::alloc::{AllocError, Global};
 
 /// The container of this id.
 pub fn find<'a>(containers: &'a IndexMap<String, Container>, id: &str) -> Option<&'a Container>
-    ensures { option_map (λ c. seen c.now) result ≡ lookup (bytes_eq id.now) (all_seen containers.now.entries) }
+    ensures { option_map (λ c. viewed c.now) result ≡ lookup (bytes_eq id.now) (all_seen containers.now.entries) }
 {
     containers.get(id)
 }
@@ -40,7 +40,7 @@ pub fn prepare(
 pub fn append(containers: &mut IndexMap<String, Container>, id: String, container: Container)
     requires room { 0 < spare containers.old }
     requires absent { lookup (bytes_eq (string_bytes id)) (all_seen containers.old.entries) ≡ None }
-    ensures { all_seen containers.new.entries ≡ all_seen containers.old.entries ++ (string_bytes id, seen container)
+    ensures { all_seen containers.new.entries ≡ all_seen containers.old.entries ++ (string_bytes id, viewed container)
         ∷ [] }
 {
     match containers.insert(id, container) {

@@ -14,7 +14,7 @@ ghost use Rattle.node.specs.Written.{CreateWrites};
 use crate::container::Container;
 use crate::containers::{append, find, prepare};
 use crate::free_cpus::is_pinned;
-use crate::launch::launch;
+use crate::launch::{lacks_pid, launch};
 use crate::{CONTAINER_LIMIT, Node, NodeFault};
 use certificate_text::is_id;
 use config_json::{Config, ConfigFault};
@@ -105,15 +105,13 @@ impl<K: Kernel + Drop> Node<K> {
         requires { cpus ≢ set.empty }
         ensures { Places cpus self.old id.now bundle.now config.now result self.new }
     {
-        if let Err(fault) = self.check_id(id) {
-            return Err(OrMemory::Fault(fault));
-        }
-        let (runnable, demand) = match read_config(self.alloc, config, &self.machine) {
-            Ok(wanted) => wanted,
-            Err(error) => return Err(error),
-        };
+        self.check_id(id)?;
+        let (runnable, demand) = read_config(self.alloc, config, &self.machine)?;
         if let Some(cpu) = self.first_taken(&cpus, is_pinned(demand.kind)) {
             return Err(OrMemory::Fault(NodeFault::NotFree(cpu)));
+        }
+        if lacks_pid(&self.kernel, self.parent, id) {
+            return Err(late_answer(OrMemory::Fault(KernelFault::NoPids)));
         }
         let (key, bundle) = match prepare(self.alloc, &mut self.containers, id, bundle) {
             Ok(texts) => texts,
@@ -141,8 +139,8 @@ impl<K: Kernel + Drop> Node<K> {
     /// # Errors
     /// In this order: `Busy`, `BadId`, `IdInUse`, `TooManyContainers`, `Config`, `Demand`; and then of the kernel
     /// `NoSerials`, `NoPids` or `Failed`. Before the first allocation it is known whether the config has too many bytes
-    /// or none, and whether they are UTF-8. An allocation failure or a refusal of the kernel leaves at most an empty
-    /// group of this id, which a later `create` uses.
+    /// or none, and whether they are UTF-8. If no pid or no serial is left, no group is made. An allocation failure or
+    /// a failed write leaves at most an empty group of this id, which a later `create` of the id uses.
     pub fn create(
         &mut self,
         id: &str,
@@ -153,14 +151,14 @@ impl<K: Kernel + Drop> Node<K> {
         // theirs. These are the group, found by its name or made, its CPUs, its memory nodes, and only then the first
         // process.
         ensures creates { Creates self.old id.now bundle.now config.now result self.new }
-        // If a cause of its own refuses it, nothing changes. If an allocation fails or the kernel refuses, it leaves at
-        // most a group of that id without a process. The next `create` of the id finds it.
+        // If a cause of its own refuses it or no pid is left, nothing changes. If an allocation fails or the kernel
+        // refuses else, it leaves at most a group of that id without a process. The next `create` of the id finds it.
         ensures leaves { CreateLeaves self.old id.now result self.new }
         ensures counted { self.new.kernel.failures ≡ self.old.kernel.failures + rise_or_memory result }
         // It makes four writing calls, or three if the group is there. If it is refused it makes at most these.
         ensures made { CreateWrites self.old id.now result self.new }
         // The kernel refuses in three cases only. A write fails, no serial for a group of this id is left, or no pid is
-        // left. If no serial is left, only the count of writes changes.
+        // left. If no serial is left, only the count of writes changes, and if no pid is left nothing.
         ensures late { (fault : KernelFault) → result ≡ Err (Fault (Kernel fault))
             → LateCause self.old id.now fault self.new }
         // It never answers that a CPU is not free.

@@ -5,7 +5,7 @@ ghost use Rattle.std.specs.FinSet as set;
 ghost use Rattle.cpuset_tree.specs.Groups.{has_group};
 ghost use Rattle.node.specs.MayRequest.{keeps, AreFreeCpus, IsLeastTaken};
 ghost use Rattle.node.specs.Owners.{is_pinned};
-ghost use Rattle.node.specs.Viewed.{seen, all_seen};
+ghost use Rattle.node.specs.Viewed.{viewed, all_seen};
 
 use crate::Node;
 use crate::container::Container;
@@ -28,7 +28,7 @@ pub fn is_pinned(kind: Kind) -> bool
 fn kept_by<K: Kernel>(kernel: &K, container: &Container, pinned: bool) -> IdSet
     requires { has_group (K.state kernel.now).tree container.now.group ≡ true }
     ensures { (id : List ℕ) (cpu : ℕ) → set.contains result cpu
-        ≡ keeps (K.state kernel.now) pinned cpu (id, seen container.now) }
+        ≡ keeps (K.state kernel.now) pinned cpu (id, viewed container.now) }
 {
     if !kernel.first_alive(container.pid) {
         return IdSet::empty();

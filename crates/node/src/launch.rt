@@ -1,11 +1,25 @@
 //! A container's group and first process in the kernel.
 ghost use Rattle.std.specs.Prelude.{◌≡◌, true};
 ghost use Rattle.cpuset_tree.specs.Groups.{has_group};
-ghost use Rattle.node.specs.Launch.{FindsOrMakes, WritesSets, StartsIn, Launches};
+ghost use Rattle.node.specs.Launch.{FindsOrMakes, WritesSets, StartsIn, Launches, lacks_pid};
 
 use cpu_set::IdSet;
 use faults::OrMemory;
 use kernel_model::{Group, Kernel, KernelFault};
+
+/// Whether no pid is left for a process of the child of this name, and that is the first thing that stands against it.
+/// Want of a serial comes before it, if the child is yet to be made.
+pub fn lacks_pid<K: Kernel>(kernel: &K, parent: Group, name: &str) -> bool
+    ensures { result ≡ lacks_pid (K.state kernel.now) parent name.now }
+{
+    if kernel.has_pids() {
+        return false;
+    }
+    match kernel.makable(parent, name) {
+        Err(KernelFault::NoSerials) => false,
+        _ => true,
+    }
+}
 
 /// The child of this name, which is made if there is none.
 pub fn find_or_make<K: Kernel>(
@@ -32,9 +46,7 @@ fn write_sets<K: Kernel>(
 ) -> Result<(), KernelFault>
     ensures { WritesSets (K.state kernel.old) group cpus mems result (K.state kernel.new) }
 {
-    if let Err(fault) = kernel.write_cpus(group, cpus) {
-        return Err(fault);
-    }
+    kernel.write_cpus(group, cpus)?;
     kernel.write_mems(group, mems)
 }
 
@@ -47,9 +59,7 @@ fn start_in<K: Kernel>(
 ) -> Result<u32, OrMemory<KernelFault>>
     ensures { StartsIn (K.state kernel.old) group cpus mems result (K.state kernel.new) }
 {
-    if let Err(fault) = write_sets(kernel, group, cpus, mems) {
-        return Err(OrMemory::Fault(fault));
-    }
+    write_sets(kernel, group, cpus, mems)?;
     kernel.spawn(group)
 }
 
@@ -64,10 +74,7 @@ pub fn launch<K: Kernel>(
     requires { has_group (K.state kernel.old).tree parent ≡ true }
     ensures { Launches (K.state kernel.old) parent name.now cpus mems result (K.state kernel.new) }
 {
-    let group = match find_or_make(kernel, parent, name) {
-        Ok(group) => group,
-        Err(error) => return Err(error),
-    };
+    let group = find_or_make(kernel, parent, name)?;
     match start_in(kernel, group, cpus, mems) {
         Ok(pid) => Ok((group, pid)),
         Err(error) => Err(error),

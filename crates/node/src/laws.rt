@@ -1,7 +1,10 @@
 //! What holds over all runs of a node, the headline first of all: laws over the definitions alone. Nothing here runs.
-ghost use Rattle.std.specs.Prelude.{◌≡◌, true, false, [], codes};
+ghost use Rattle.std.specs.Prelude.{◌≡◌, true, false, [], ◌∷◌, codes};
+ghost use Rattle.faults.specs.declared.OrMemory.TheVariants.{Fault};
+ghost use Rattle.kernel_model.specs.declared.KernelFault.TheVariants.{Failed};
 ghost use Rattle.node.specs.Asking.{RowsAreAsking, ScaledRowsAreAsking, ShortStands};
 ghost use Rattle.node.specs.Calls.{is_ending};
+ghost use Rattle.node.specs.Disturbs.{RebalancesWriteLittle};
 ghost use Rattle.node.specs.Ending.{HandoversEnd};
 ghost use Rattle.node.specs.FaultTitle.{node_title};
 ghost use Rattle.node.specs.Machine.{Ask, Step, FirstIsNode, RunsKeep, RunsStaySafe, RunsStayApart, RebalancesAreSteps};
@@ -11,10 +14,13 @@ ghost use Rattle.node.specs.Making.{UpdatesStaySafe};
 ghost use Rattle.node.specs.NodeState.{NodeState};
 ghost use Rattle.node.specs.Proved.{LastIsProved, TotalIsProved, ShortIsProved};
 ghost use Rattle.node.specs.Questions.{Answers, ListAll, PhaseIs, SetsOf};
+ghost use Rattle.node.specs.Retries.{failed_in, RetriesEnd};
 ghost use Rattle.node.specs.Said.{ContainersAreSaid};
 ghost use Rattle.node.specs.Served.{RunsServeConfigs};
+ghost use Rattle.node.specs.Standing.{requested_sets, StandingPlansAreKept, AnsweredPlansStand, SecondsKeepPlans};
 ghost use Rattle.node.specs.Status.{status_by};
 ghost use Rattle.node.specs.WithoutCores.{WithoutCores};
+ghost use Rattle.node.specs.declared.outcome.Outcome.TheVariants.{Plan};
 ghost use Rattle.node.specs.UnusedLemmas.{FirstIsUnused, FirstIsOfMachine, FirstWantsMemory};
 
 use crate::{CONTAINER_LIMIT, GROUP_NAME, NodeFault, Status};
@@ -85,6 +91,32 @@ pub fn each_rebalance()
     ensures { RunsRebalance }
 {}
 
+/// A plan that stands is kept. If what the live containers' groups request is a plan of least distance already, with
+/// the pool for the shared ones, a rebalance asks nothing of the kernel, moves nobody and answers that distance
+/// (`kept`). An allocation failure is all that can keep it from that. It doesn't matter who wrote the sets, so what was
+/// adopted with those of a least plan stays as it is.
+///
+/// Such a plan stands once a rebalance answered it (`stands`), so a second rebalance in a row writes nothing
+/// (`second`).
+pub fn standing_plans()
+    ensures kept { StandingPlansAreKept }
+    ensures stands { AnsweredPlansStand }
+    ensures second { SecondsKeepPlans }
+{}
+
+/// How often a rebalance to a plan writes one live container. One that requests what the plan gives it is not written
+/// at all. One that lets nothing go but reserved CPUs, as it only gets more, is written once at most. So is one that
+/// only lets go, none of them reserved. No other is written more than twice, and nobody else's group is.
+pub fn each_write()
+    ensures { RebalancesWriteLittle }
+{}
+
+/// Retries end. If n writes fail in all, then of n + 1 rebalances in a row one answers: a plan, a shortage, or that an
+/// allocation failed. However many there are, at most 2 (n + 1) writes for each live container succeed.
+pub fn retries()
+    ensures { RetriesEnd }
+{}
+
 /// What a plan gives to a container, by the config that was read for it last. It holds after any list of calls and
 /// events from a node of no container on.
 ///
@@ -139,5 +171,7 @@ pub fn worked()
     ensures nobody { (n : NodeState) → Answers (record n { containers = [] }) (ListAll []) }
     ensures unknown { (n : NodeState)
         → Answers (record n { containers = [] }) (SetsOf (codes "a") (Err NodeFault.NoContainer)) }
+    ensures nobody_asks { (n : NodeState) → requested_sets (record n { containers = [] }) ≡ [] }
+    ensures one_failed { failed_in (Err (Fault (NodeFault.Kernel Failed)) ∷ Ok (Plan 3) ∷ []) ≡ 1 }
     ensures refused { node_title NodeFault.NotRunnable ≡ codes "E96 NotRunnable" }
 {}

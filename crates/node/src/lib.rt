@@ -8,7 +8,6 @@
 //! - `fork`, `exit`, `offline` and `online_cpu` are the kernel's cases. `pool` and `phase` are told as they are.
 #![tactic(auto)]
 
-mod begin;
 mod container;
 mod containers;
 mod create;
@@ -22,6 +21,7 @@ mod list;
 mod named;
 mod node;
 mod ongoing;
+mod opening;
 mod outcome;
 mod phase;
 mod planning;

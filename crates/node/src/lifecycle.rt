@@ -3,7 +3,7 @@ ghost use Rattle.std.specs.Prelude.{◌≡◌, ◌+◌};
 ghost use Rattle.node.specs.Calls.{Starts, Kills, Deletes, is_ending, is_created};
 ghost use Rattle.node.specs.Leaves.{rise_of};
 ghost use Rattle.node.specs.Written.{one_write};
-ghost use Rattle.node.specs.Viewed.{seen};
+ghost use Rattle.node.specs.Viewed.{viewed};
 
 use crate::container::Container;
 use crate::containers::{find, mark_started, take_out};
@@ -24,7 +24,7 @@ fn is_ending(signal: &str) -> bool
 
 /// Whether a container is live, and was not started.
 fn is_created<K: Kernel>(kernel: &K, container: &Container) -> bool
-    ensures { result ≡ is_created (K.state kernel.now) (seen container.now) }
+    ensures { result ≡ is_created (K.state kernel.now) (viewed container.now) }
 {
     kernel.first_alive(container.pid) && !container.started
 }

@@ -1,7 +1,7 @@
 //! The containers with their statuses.
 ghost use Rattle.std.specs.Prelude.{◌≡◌};
 ghost use Rattle.std.specs.Iterator.{YieldsFirstBy, item_count};
-ghost use Rattle.node.specs.Listed.{listed};
+ghost use Rattle.node.specs.Listed.{listing};
 
 use crate::Node;
 use crate::container::{Container, Status};
@@ -47,7 +47,7 @@ impl<'a, K: Kernel> Iterator for Listing<'a, K> {
 impl<K: Kernel + Drop> Node<K> {
     /// The containers' ids with their statuses, in the order in which the containers were created.
     pub fn list(&self) -> Listing<'_, K>
-        ensures { result ≡ listed self.now }
+        ensures { result ≡ listing self.now }
     {
         Listing {
             entries: self.containers.iter(),

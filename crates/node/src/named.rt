@@ -3,7 +3,7 @@ ghost use Rattle.std.specs.Prelude.{IsSome};
 ghost use Rattle.node.specs.Named.{Names};
 
 use crate::Node;
-use crate::begin::shown_cpus;
+use crate::opening::shown_cpus;
 use certificate::{Certificate, Row};
 use cpu_set::IdSet;
 use kernel_model::Kernel;

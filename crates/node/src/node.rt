@@ -158,6 +158,13 @@ impl<K: Kernel + Drop> Node<K> {
         &self.kernel
     }
 
+    /// The kernel, handed back once the node is done with.
+    pub fn into_kernel(self) -> K
+        ensures { K.state result ≡ self.kernel }
+    {
+        self.kernel
+    }
+
     /// The CPUs that no plan gave to a container; before any plan the reserved ones.
     pub fn pool(&self) -> IdSet
         ensures { result ≡ self.now.pool }

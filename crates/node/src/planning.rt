@@ -20,6 +20,7 @@ ghost use Rattle.node.specs.Written.{RebalanceWrites};
 ghost use Rattle.node.specs.Rebalance.{Begins, ComesTo, Finishes, Rebalances, WorksOut, IsNeed, ShowsCertificate};
 
 use crate::ongoing::Ongoing;
+use crate::opening::kept_cpus;
 use crate::{Node, NodeFault, Outcome, Phase};
 use certificate::{Certificate, Cost, Problem, Weights, check_shortage, offered_to};
 use cpu_set::IdSet;
@@ -104,7 +105,7 @@ impl<K: Kernel + Drop> Node<K> {
         let (outcome, kept) = match &certificate {
             Certificate::Plan { plan, total, .. } => {
                 let cores = plan.sets.as_slice();
-                let kept = self.kept_of(cores)?;
+                let kept = kept_cpus(self.alloc, &self.machine, cores)?;
                 let (pool, ongoing) = self.opening(cores, kept.as_slice())?;
                 self.open_to(pool, ongoing);
                 let distance = Cost::unpack(*total).distance;
@@ -183,7 +184,20 @@ impl<K: Kernel + Drop> Node<K> {
     /// no plan, nothing is written. A shortage then names containers that together ask for more CPUs than the whole
     /// cores that they may have offer.
     ///
-    /// All memory is taken before the first write.
+    /// All memory is taken before the first write, the kernel's too: a mirrored one makes its paths and lines in room
+    /// that it has.
+    ///
+    /// ```text
+    /// node.create("a", "bundle", config)?;
+    /// match node.rebalance()? {
+    ///     Outcome::Plan(distance) => {}           // each live container has its CPUs
+    ///     Outcome::Short { asked, allowed } => {} // nothing was written
+    /// }
+    /// let certificate = node.certificate()?;      // proves the one or the other
+    /// ```
+    ///
+    /// `tools run` makes these calls for the commands of a script, over a kernel of which each write fails in turn
+    /// (`tests/runs.sh`).
     ///
     /// # Errors
     /// In this order: `Busy`; an allocation failure; `Failed` of the kernel: the hand-over is over, each container

@@ -10,7 +10,7 @@ ghost use Rattle.cpuset_tree.specs.Groups.{has_group};
 ghost use Rattle.node.specs.IsNode.{HaveOtherIds, IsAsked};
 ghost use Rattle.node.specs.Owners.{owners_of};
 ghost use Rattle.node.specs.Rows.{scaled_row_of_container, scaled_rows_in, scaled_rows_of};
-ghost use Rattle.node.specs.Viewed.{seen, all_seen};
+ghost use Rattle.node.specs.Viewed.{viewed, all_seen};
 ghost use Rattle.rows.specs.CachedOffers.{IsCached};
 
 use crate::container::Container;
@@ -39,7 +39,7 @@ fn row_in<K: Kernel>(
     requires fits { FitsMachine machine.now container.now.demand }
     requires cache { All (IsCached machine.now) cache.old.items }
     ensures row { IfOk result (λ row. row ≡ scaled_row_of_container (K.state kernel.now) machine.now
-        (id.now, seen container.now)) }
+        (id.now, viewed container.now)) }
     ensures fits { IfOk result (λ row. IfSome row (λ r. IsTrue (row_fits r))) }
     ensures cache { All (IsCached machine.now) cache.new.items }
 {

@@ -2,7 +2,7 @@
 ghost use Rattle.std.specs.Prelude.{◌≡◌, true};
 ghost use Rattle.cpuset_tree.specs.Groups.{has_group};
 ghost use Rattle.node.specs.Status.{status_of};
-ghost use Rattle.node.specs.Viewed.{seen};
+ghost use Rattle.node.specs.Viewed.{viewed};
 ghost use Rattle.node.specs.Sets.{sets_at, HasSets};
 
 use crate::container::{Container, Status};
@@ -26,7 +26,7 @@ pub struct Sets {
 
 /// What a container does.
 pub fn status<K: Kernel>(kernel: &K, container: &Container) -> Status
-    ensures { result ≡ status_of (K.state kernel.now) (seen container.now) }
+    ensures { result ≡ status_of (K.state kernel.now) (viewed container.now) }
 {
     if !kernel.first_alive(container.pid) {
         Status::Stopped

@@ -3,7 +3,7 @@ ghost use Rattle.std.specs.Prelude.{◌≡◌, IfOk, string_bytes};
 ghost use Rattle.serde_json.specs.View.{view};
 ghost use Rattle.serde_json.specs.Written.{compact_text};
 ghost use Rattle.node.specs.Shown.{live_data, stopped_data, state_of, Shows};
-ghost use Rattle.node.specs.Viewed.{seen};
+ghost use Rattle.node.specs.Viewed.{viewed};
 
 use crate::container::{Container, Status};
 use crate::containers::find;
@@ -64,7 +64,7 @@ fn state_text<K: Kernel>(
     container: &Container,
 ) -> Result<String, AllocError>
     ensures { IfOk result (λ text. string_bytes text
-        ≡ compact_text (state_of (K.state kernel.now) id.now (seen container.now))) }
+        ≡ compact_text (state_of (K.state kernel.now) id.now (viewed container.now))) }
 {
     let bundle = container.bundle.as_str();
     let status = status(kernel, container);

@@ -7,7 +7,7 @@ ghost use Rattle.kernel_model.specs.Cases.{WritesCpus, WritesMems};
 ghost use Rattle.node.specs.Leaves.{rise_or_memory};
 ghost use Rattle.node.specs.Making.{IsAsBefore};
 ghost use Rattle.node.specs.Updates.{becomes_pinned, gives_way, moves_home, MadeIf, Rewrites, Updates, WritesNoMore};
-ghost use Rattle.node.specs.Viewed.{seen};
+ghost use Rattle.node.specs.Viewed.{viewed};
 
 use crate::container::Container;
 use crate::containers::{find, replace};
@@ -34,20 +34,19 @@ fn gives_way<K: Kernel>(
     demand: &Demand,
 ) -> bool
     requires { has_group (K.state kernel.now).tree container.now.group ≡ true }
-    ensures { result ≡ gives_way (K.state kernel.now) reserved.now (seen container.now) demand.now }
+    ensures { result ≡ gives_way (K.state kernel.now) reserved.now (viewed container.now) demand.now }
 {
     if !becomes_pinned(&container.demand, demand) {
         return false;
     }
-    let requests = requested(kernel, container.group);
-    !(*requests == *reserved)
+    *requested(kernel, container.group) != *reserved
 }
 
 /// Whether its homes are others now.
 fn moves_home(before: &Demand, after: &Demand) -> bool
     ensures { result ≡ moves_home before.now after.now }
 {
-    !(before.homes == after.homes)
+    before.homes != after.homes
 }
 
 /// Writes a group's CPUs, or does nothing.
@@ -91,12 +90,10 @@ fn rewrite<K: Kernel>(
     demand: &Demand,
 ) -> Result<(), KernelFault>
     requires { has_group (K.state kernel.old).tree container.now.group ≡ true }
-    ensures { Rewrites (K.state kernel.old) reserved (seen container.now) demand.now result (K.state kernel.new) }
+    ensures { Rewrites (K.state kernel.old) reserved (viewed container.now) demand.now result (K.state kernel.new) }
 {
     let gives = gives_way(&*kernel, &reserved, container, demand);
-    if let Err(fault) = write_cpus_if(gives, kernel, container.group, reserved) {
-        return Err(fault);
-    }
+    write_cpus_if(gives, kernel, container.group, reserved)?;
     let moves = moves_home(&container.demand, demand);
     write_mems_if(moves, kernel, container.group, demand.homes)
 }

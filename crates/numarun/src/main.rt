@@ -13,7 +13,7 @@ fn main(rt: HostRuntime) -> ExitCode {
         &CommandLine,
         arguments,
         &Disk::new(&rt),
-        HostTrees::new(&rt),
+        &mut HostTrees::new(&rt),
         rt.stdin(),
         &mut console,
     ))

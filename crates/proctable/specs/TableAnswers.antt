@@ -1,5 +1,5 @@
 -- What each call of a table answers: the first thing that stands against it, in the order written here, or what it is for.
-use Rattle.std.specs.Prelude.{◌≡◌, ℕ, false, nat_lt, if◌then◌else◌, not, Option, Some, None, Result}
+use Rattle.std.specs.Prelude.{◌≡◌, ℕ, Bool, false, nat_lt, nat_le, if◌then◌else◌, not, Option, Some, None, Result}
 use Rattle.faults.specs.declared.or_memory.OrMemory.{OrMemory}
 use Rattle.faults.specs.Calls.{Grows}
 use Rattle.cpuset_tree.specs.declared.Group.{Group}
@@ -10,6 +10,10 @@ use Rattle.proctable.specs.declared.processes.Process.{Process}
 use Rattle.proctable.specs.TableState.{TableState}
 use Rattle.proctable.specs.Processes.{process_of, is_alive}
 use Rattle.proctable.specs.TableChanges.{with_process}
+
+-- whether a pid is left for one process more
+abbrev pub has_pids : TableState → Bool
+has_pids t = nat_le t.next_pid LAST_PID
 
 -- what stands against one process more
 abbrev pub spawn_refusal : TableState → Option ProcFault

@@ -1,8 +1,9 @@
+//! The live processes: a first process each, and those that belong to it.
 ghost use Rattle.std.specs.Prelude.{◌≡◌, ◌≢◌, ◌≤◌, true, Some, IfOk, OnErr};
 ghost use Rattle.faults.specs.Calls.{Decides};
 ghost use Rattle.proctable.specs.Processes.{process_of, is_alive, group_of, count_in};
 ghost use Rattle.proctable.specs.TableChanges.{first_table, exited, ended_in};
-ghost use Rattle.proctable.specs.TableAnswers.{exit_refusal, AddsProcess, Spawns, Forks};
+ghost use Rattle.proctable.specs.TableAnswers.{exit_refusal, has_pids, AddsProcess, Spawns, Forks};
 ghost use Rattle.proctable.specs.TableWellFormed.{IsWellFormed};
 ghost use Rattle.proctable.specs.Kept.{BelongsNext};
 ghost use Rattle.proctable.specs.declared.processes.Process.{Process};
@@ -102,6 +103,13 @@ impl ProcTable {
         ensures { result ≡ count_in self.now group }
     {
         count_of(self.slots.as_slice(), group)
+    }
+
+    /// Whether a pid is left for one process more.
+    pub fn has_pids(&self) -> bool
+        ensures { result ≡ has_pids self.now }
+    {
+        self.next_pid <= LAST_PID
     }
 
     /// Makes a first process in a group.

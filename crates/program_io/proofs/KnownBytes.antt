@@ -7,7 +7,7 @@ use Rattle.program_io.specs.ReadFaults.{IsTold}
 use Rattle.program_io.specs.Readings.{IsReadingOfKnown}
 use Rattle.program_io.specs.StoppedReads.{IsGivenBy, LacksRoom, PassesBound, StopsEarly, StopsWith}
 use Rattle.program_io.specs.declared.fault.ReadFault.{ReadFault}
-use Rattle.program_io.specs.declared.fault.ReadFault.TheVariants.{NoSuchFile, Directory, Forbidden, Failed, TooManyBytes, TooManyReads}
+use Rattle.program_io.specs.declared.fault.ReadFault.TheVariants.{NoSuchFile, Directory, NotADirectory, Forbidden, Failed, TooManyBytes, TooManyReads}
 use Rattle.program_io.specs.declared.reading.TheConstants.{MOST_BYTES, MOST_READS, PIECE}
 use Rattle.faults.specs.declared.or_memory.OrMemory.{OrMemory}
 use Rattle.faults.specs.declared.or_memory.OrMemory.TheVariants.{Memory, Fault}
@@ -43,6 +43,7 @@ StopsWith-told a b c reads bs kind fault told few h kept = by_fault fault told
     by_fault : (fault : ReadFault) → IsTold kind fault → StopsWith a c (Fault fault)
     by_fault NoSuchFile told = stopped
     by_fault Directory told = stopped
+    by_fault NotADirectory told = stopped
     by_fault Forbidden told = stopped
     by_fault Failed told = stopped
     by_fault TooManyBytes told = absurd told
@@ -70,6 +71,7 @@ IsReadingOfKnown-stopped (Some all) new (Fault TooManyBytes) (taken, past, p) = 
 IsReadingOfKnown-stopped (Some all) new (Fault TooManyReads) (taken, given, within, p) = omega (arith, given.0, taken_of all new taken p)
 IsReadingOfKnown-stopped (Some all) new (Fault NoSuchFile) stopped = tt
 IsReadingOfKnown-stopped (Some all) new (Fault Directory) stopped = tt
+IsReadingOfKnown-stopped (Some all) new (Fault NotADirectory) stopped = tt
 IsReadingOfKnown-stopped (Some all) new (Fault Forbidden) stopped = tt
 IsReadingOfKnown-stopped (Some all) new (Fault Failed) stopped = tt
 

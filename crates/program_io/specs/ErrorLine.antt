@@ -35,11 +35,16 @@ shown_behind before (b ∷ rest) = shown_byte before b (get_or rest 0 0) ++ show
 abbrev pub shown_name : List ℕ → List ℕ
 shown_name name = shown_behind 0 name
 
+-- a name that is empty stands between quotation marks
+abbrev pub called_name : List ℕ → List ℕ
+called_name [] = codes "\"\""
+called_name name = shown_name name
+
 -- the line that standard error gets of something that is wrong: what it is of, and what is wrong with it
 abbrev pub error_line : List ℕ → List ℕ → List ℕ
-error_line of wrong = codes "error: " ++ (shown_name of ++ (codes ": " ++ (wrong ++ codes "\n")))
+error_line of wrong = codes "error: " ++ (called_name of ++ (codes ": " ++ (wrong ++ codes "\n")))
 
 -- the same of a text, and at which line and column
 abbrev pub error_at : List ℕ → List ℕ → (line column : ℕ) → List ℕ
 error_at of wrong line column =
-    codes "error: " ++ (shown_name of ++ (codes ": " ++ (wrong ++ (codes ", line " ++ (decimal line ++ (codes " column " ++ (decimal column ++ codes "\n")))))))
+    codes "error: " ++ (called_name of ++ (codes ": " ++ (wrong ++ (codes ", line " ++ (decimal line ++ (codes " column " ++ (decimal column ++ codes "\n")))))))

@@ -5,4 +5,4 @@ pub mod ReadFaults
 pub mod Readings
 pub mod RefusalLine
 pub mod StoppedReads
-pub mod Taking
+pub mod TakingLemmas

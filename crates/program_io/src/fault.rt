@@ -1,3 +1,4 @@
+//! Why an input can't be read.
 ghost use Rattle.std.specs.Prelude.{◌≡◌};
 ghost use Rattle.std.specs.IoError.{error_kind};
 ghost use Rattle.program_io.specs.ReadFaults.{IsTold, reason_of};
@@ -12,6 +13,8 @@ pub enum ReadFault {
     NoSuchFile,
     /// It is a directory.
     Directory,
+    /// It, or a folder on its path, is no directory.
+    NotADirectory,
     /// It may not be read.
     Forbidden,
     /// The system told another reason.
@@ -25,13 +28,14 @@ pub enum ReadFault {
 impl ReadFault {
     /// The reason that the system tells.
     pub fn told(kind: ErrorKind) -> ReadFault
-        // A failed opening or read is told by the kind of its error (`IsTold`): no such file, a directory, permission
-        // denied, and another.
+        // A failed opening or read is told by the kind of its error (`IsTold`): no such file, a directory, not a
+        // directory, permission denied, and another.
         ensures { IsTold kind result }
     {
         match kind {
             ErrorKind::NotFound => ReadFault::NoSuchFile,
             ErrorKind::IsADirectory => ReadFault::Directory,
+            ErrorKind::NotADirectory => ReadFault::NotADirectory,
             ErrorKind::PermissionDenied => ReadFault::Forbidden,
             _ => ReadFault::Failed,
         }
@@ -44,6 +48,7 @@ impl ReadFault {
         match self {
             ReadFault::NoSuchFile => "no such file",
             ReadFault::Directory => "is a directory",
+            ReadFault::NotADirectory => "not a directory",
             ReadFault::Forbidden => "permission denied",
             ReadFault::Failed => "can't be read",
             ReadFault::TooManyBytes => "has more than 67108864 bytes",

@@ -1,7 +1,7 @@
 //! Lines of output, and numbers in them.
 ghost use Rattle.std.specs.Prelude.{◌≡◌, ◌<◌, ◌++◌, [], ◌∷◌, codes, decimal, get_or};
 ghost use Rattle.program_io.specs.ErrorLine.{error_at, error_line, hex_digit, is_behind_lead, is_control, is_lead};
-ghost use Rattle.program_io.specs.ErrorLine.{shown_byte, shown_name};
+ghost use Rattle.program_io.specs.ErrorLine.{called_name, shown_byte, shown_name};
 ghost use Rattle.byte_output.specs.Output.{Writes};
 
 use byte_output::{put, put_all, put_number};
@@ -65,8 +65,18 @@ fn put_place<W: Write>(line: u64, column: u64, w: &mut W) -> io::Result<()>
     put_number(b"", column, b"\n", w)
 }
 
-/// Writes a name, with each control character by its number.
+/// Writes a name, with each control character by its number; one that is empty between quotation marks.
 fn put_name<W: Write>(name: &[u8], w: &mut W) -> io::Result<()>
+    ensures { Writes (W.contents w.old) (W.contents w.new) result (called_name name.now) }
+{
+    match name {
+        [] => put(b"\"\"", w),
+        [_, ..] => put_bytes(name, w),
+    }
+}
+
+/// Writes the bytes of a name, with each control character by its number.
+fn put_bytes<W: Write>(name: &[u8], w: &mut W) -> io::Result<()>
     ensures { Writes (W.contents w.old) (W.contents w.new) result (shown_name name.now) }
 {
     let mut before = 0;

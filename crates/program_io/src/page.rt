@@ -1,3 +1,4 @@
+//! Output that is held back until a page is full.
 ghost use Rattle.std.specs.Prelude.{◌≡◌, ◌-◌, [], OnOk, length, min, take};
 ghost use Rattle.std.specs.Io.KnownBytes.{Appends, Keeps};
 ghost use Rattle.program_io.specs.Pages.{TakesIfRoom, contents_of};

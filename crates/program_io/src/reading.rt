@@ -1,3 +1,4 @@
+//! An input read to its end.
 ghost use Rattle.std.specs.Prelude.{◌≡◌, ◌≤◌, IfErr, IfOk, IfSome, OnOk, vec_len};
 ghost use Rattle.std.specs.Io.KnownBytes.{IsAtEnd};
 ghost use Rattle.program_io.specs.StoppedReads.{IsReadBy, StopsWith};

@@ -1,3 +1,4 @@
+//! The line of a refusal.
 ghost use Rattle.std.specs.Prelude.{◌≡◌};
 ghost use Rattle.program_io.specs.FaultRefusal.{machine_refusal, read_refusal, slit_refusal, verdict_refusal};
 ghost use Rattle.program_io.specs.declared.refusal.Refusal.TheVariants.{List};

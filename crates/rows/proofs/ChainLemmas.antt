@@ -6,13 +6,13 @@ use Rattle.std.proofs.lemmas.List.{length-set, length-replicate, get_or-replicat
 use Rattle.std.proofs.Math.ListN.{set as set_at}
 use Rattle.std.specs.FinSet as set
 use Rattle.cpu_set.specs.Ids.{Ids}
-use Rattle.cpu_set.specs.Pointwise.{contains-union, contains-empty}
+use Rattle.cpu_set.specs.PointwiseLaws.{contains-union, contains-empty}
 use Rattle.machine.specs.declared.TheConstants.{NODE_LIMIT}
 use Rattle.machine.specs.Layout.{Layout}
 use Rattle.machine.specs.Nodes.{node_of}
 use Rattle.machine.specs.Present.{present}
 use Rattle.rows.specs.Chains.{IsLastBelow, AreChains}
-use Rattle.faults.specs.Tests.{none_above}
+use Rattle.faults.specs.TestLaws.{none_above}
 
 replicate_zero : (n i : ℕ) → get_or (replicate {A = ℕ} n 0) i 0 ≡ 0
 replicate_zero n i = elim (cases_lt i n) [

@@ -8,15 +8,15 @@ use Rattle.std.proofs.lemmas.List.{flat_map_more, take_more}
 use Rattle.std.proofs.lemmas.List.Elements.{filter-append}
 use Rattle.std.proofs.lemmas.List.Sums.{AllPass-from_list_all}
 use Rattle.cpu_set.specs.Ids.{Ids, NoneFrom, IsFirstFrom, IsLast}
-use Rattle.cpu_set.specs.Pointwise.{same_members, contains-empty, contains-intersection, contains-difference}
+use Rattle.cpu_set.specs.PointwiseLaws.{same_members, contains-empty, contains-intersection, contains-difference}
 use Rattle.cpu_set.specs.SetLaws.{is_subset-Decides}
 use Rattle.cpu_set.specs.declared.TheConstants.{CPU_LIMIT}
 use Rattle.machine.specs.Layout.{Layout}
 use Rattle.certificate.specs.declared.Offer.{Offer}
 use Rattle.certificate.specs.Packed.{packed}
-use Rattle.rows.specs.Offers.{has_some, offer_at, offers_of}
+use Rattle.rows.specs.Offers.{has_some, offer_at, offers_by_distance}
 use Rattle.rows.specs.PartLemmas.{some_pushed}
-use Rattle.rows.specs.Scaled.{are_distances, kept, moved, parted}
+use Rattle.rows.specs.Scaled.{are_distances, held_part, moved, parted}
 
 -- the least number, or the limit where there is none, is above no number of the set
 pub least_first : (s : Ids) (next : Option ℕ) (first n : ℕ) → MatchOption next (NoneFrom s 0) (IsFirstFrom s 0) → first ≡ unwrap_or next CPU_LIMIT → set.contains s n ≡ true → first ≤ n
@@ -38,7 +38,7 @@ one_of_two x y none some = rw (none, some) refl
 pub parted_none : (held : Ids) (o : Offer) → has_some o ≡ true → ((n : ℕ) → set.contains o.cpus n ≡ true → set.contains held n ≡ false)
     → parted held o ≡ record { weight = packed o.weight 1; cpus = o.cpus } ∷ []
 parted_none held o some none =
-    one_of_two (kept held o) (moved held o) (ap (λ s. nat_lt 0 (set.len s)) no_more ∙ ap (nat_lt 0) (set.len-empty _)) (ap (λ s. nat_lt 0 (set.len s)) no_less ∙ some)
+    one_of_two (held_part held o) (moved held o) (ap (λ s. nat_lt 0 (set.len s)) no_more ∙ ap (nat_lt 0) (set.len-empty _)) (ap (λ s. nat_lt 0 (set.len s)) no_less ∙ some)
     ∙ ap (λ (s : Ids). record { weight = packed o.weight 1; cpus = s } ∷ []) no_less
   where
     apart : (a b : Bool) → (a ≡ true → b ≡ false) → (a && b) ≡ false
@@ -56,10 +56,10 @@ parted_none held o some none =
     no_less = same_members _ _ (λ q. contains-difference o.cpus held q ∙ stays _ _ (none q))
 
 -- an offer that is not within what is held has a part with the CPUs that are not
-pub parted_cut : (held : Ids) (o : Offer) → set.is_subset o.cpus held ≡ false → parted held o ≡ filter has_some (kept held o ∷ []) ++ moved held o ∷ []
+pub parted_cut : (held : Ids) (o : Offer) → set.is_subset o.cpus held ≡ false → parted held o ≡ filter has_some (held_part held o ∷ []) ++ moved held o ∷ []
 parted_cut held o cut =
-    filter-append has_some (kept held o ∷ []) (moved held o ∷ [])
-    ∙ ap (λ l. filter has_some (kept held o ∷ []) ++ l) (some_pushed _ _ (λ none. false≢true (sym cut ∙ (is_subset-Decides o.cpus held).1 none)))
+    filter-append has_some (held_part held o ∷ []) (moved held o ∷ [])
+    ∙ ap (λ l. filter has_some (held_part held o ∷ []) ++ l) (some_pushed _ _ (λ none. false≢true (sym cut ∙ (is_subset-Decides o.cpus held).1 none)))
 
 kept_some : (b : Bool) (o : Offer) (rest : List Offer) → has_some o ≡ b → list_all has_some rest ≡ true → list_all has_some (cond b (o ∷ rest) rest) ≡ true
 kept_some true o rest is all = rw is all
@@ -70,8 +70,8 @@ all_some [] = refl
 all_some (o ∷ offers) = kept_some (has_some o) o (filter has_some offers) refl (all_some offers)
 
 -- each offer has a CPU
-pub offers_of_some : (m : Layout) (homes cpus : Ids) → list_all has_some (offers_of m homes cpus) ≡ true
-unfolding offers_of
+pub offers_of_some : (m : Layout) (homes cpus : Ids) → list_all has_some (offers_by_distance m homes cpus) ≡ true
+unfolding offers_by_distance
 offers_of_some m homes cpus = all_some (map (offer_at m homes cpus) (range_with_len 0 255))
 
 -- the weight of an offer at a distance

@@ -6,15 +6,15 @@ use Rattle.std.proofs.lemmas.List.FromFn.{filter_of_map_range_with_len_more}
 use Rattle.std.proofs.lemmas.List.{append-nil}
 use Rattle.std.specs.FinSet as set
 use Rattle.cpu_set.specs.Ids.{Ids}
-use Rattle.cpu_set.specs.Pointwise.{same_members, contains-empty, contains-intersection, contains-difference}
+use Rattle.cpu_set.specs.PointwiseLaws.{same_members, contains-empty, contains-intersection, contains-difference}
 use Rattle.machine.specs.Layout.{Layout}
 use Rattle.machine.specs.Nodes.{node_of}
 use Rattle.machine.specs.Present.{present}
 use Rattle.machine.specs.Weight.{weight, AreWeights}
 use Rattle.certificate.specs.declared.Offer.{Offer}
 use Rattle.rows.specs.Reach.{AreInReach}
-use Rattle.rows.specs.Offers.{of_weight, offer_at, has_some, offers_below, offers_of}
-use Rattle.rows.specs.OfferSets.{contains-of_weight}
+use Rattle.rows.specs.Offers.{of_weight, offer_at, has_some, offers_below, offers_by_distance}
+use Rattle.rows.specs.OfferSetLemmas.{contains-of_weight}
 
 module _ (m : Layout) (homes cpus : Ids) where
   abbrev w : ℕ → ℕ
@@ -142,8 +142,8 @@ offering_none m homes cpus left weights n offers reach are none h = record {
 -- none of the CPUs is farther than the farthest node, so what is left is offered at its weight
 pub offering_end : (m : Layout) (homes cpus left : Ids) (weights : List ℕ) (n v : ℕ) (offers more : List Offer) → AreInReach m homes cpus → AreWeights m homes weights
     → n < 255 → ((k : ℕ) → get_or weights k 255 < 255 → get_or weights k 255 ≤ n) → Offering m homes cpus n offers left → v ≡ n
-    → more ≡ offers ++ filter has_some (record { weight = v; cpus = left } ∷ []) → more ≡ offers_of m homes cpus
-unfolding offers_of
+    → more ≡ offers ++ filter has_some (record { weight = v; cpus = left } ∷ []) → more ≡ offers_by_distance m homes cpus
+unfolding offers_by_distance
 offering_end m homes cpus left weights n v offers more reach are below most h same is =
     let whole : (n + 1) + (254 - n) ≡ 255 = omega (arith, below) in
     added m homes cpus left n v offers more same h.so_far rest is

@@ -5,8 +5,8 @@ pub mod Reach
 pub mod Chains
 pub mod CachedOffers
 pub mod Scaled
-pub mod OfferSets
+pub mod OfferSetLemmas
 pub mod LimitLemmas
 pub mod PartLemmas
-pub mod PartLimits
-pub mod PartRising
+pub mod PartLimitLemmas
+pub mod PartRisingLemmas

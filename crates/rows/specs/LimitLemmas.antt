@@ -5,9 +5,9 @@ use Rattle.std.proofs.lemmas.Bool.{cases_eq, and_from}
 use Rattle.std.proofs.lemmas.Bool.Decides.{nat_tests}
 use Rattle.std.proofs.Math.Nat.{mul-div_cancel, suc-mul}
 use Rattle.std.specs.FinSet as set
-use Rattle.certificate.specs.Tests.{and_left}
+use Rattle.certificate.specs.TestLaws.{true_left}
 use Rattle.cpu_set.specs.Ids.{Ids}
-use Rattle.cpu_set.specs.Pointwise.{same_members, contains-empty, contains-intersection, is_subset-contains}
+use Rattle.cpu_set.specs.PointwiseLaws.{same_members, contains-empty, contains-intersection, is_subset-contains}
 use Rattle.machine.specs.Cores.{cores_in}
 use Rattle.machine.specs.Layout.{Layout}
 use Rattle.machine.specs.Weight.{weight}
@@ -22,11 +22,11 @@ use Rattle.certificate.specs.declared.limits.TheConstants.{MAX_DEMAND, MAX_WEIGH
 use Rattle.certificate.specs.RowView.{RowView}
 use Rattle.certificate.specs.Weight.{weight as weight_in_row, weight_in}
 use Rattle.certificate.specs.Limits.{is_disjoint, are_apart, offers_fit, row_fits}
-use Rattle.rows.specs.Offers.{of_weight, offer_at, has_some, offers_of}
+use Rattle.rows.specs.Offers.{of_weight, offer_at, has_some, offers_by_distance}
 use Rattle.rows.specs.RowOf.{offered, row_of_kind}
 use Rattle.rows.specs.Weighs.{RowsWeigh}
 use Rattle.rows.specs.Scaled.{are_distances}
-use Rattle.rows.specs.OfferSets.{contains-of_weight, offers_some}
+use Rattle.rows.specs.OfferSetLemmas.{contains-of_weight, offers_some}
 
 -- a test that all of a list pass, those among them that pass another pass it too
 all_kept : {A : Type 0} (p : A → Bool) (b : Bool) (x : A) (rest : List A) → p x ≡ true → list_all p rest ≡ true → list_all p (cond b (x ∷ rest) rest) ≡ true
@@ -49,8 +49,8 @@ module _ (m : Layout) (homes cpus : Ids) where
       (grind (arith, nat_tests)) (light most (a + 1) n (omega arith))
 
   -- none weighs more than the greatest distance
-  pub offers_of_distances : are_distances (offers_of m homes cpus) ≡ true
-  unfolding offers_of
+  pub offers_of_distances : are_distances (offers_by_distance m homes cpus) ≡ true
+  unfolding offers_by_distance
   offers_of_distances = light 254 0 255 (omega arith)
 
   other_weights : (i j : ℕ) → i < j → is_disjoint (of_weight m homes cpus i) (of_weight m homes cpus j) ≡ true
@@ -81,8 +81,8 @@ module _ (m : Layout) (homes cpus : Ids) where
   unfolding offers_fit
   fit_at n few = and_from _ _ (light MAX_WEIGHT 0 n (omega (arith, few))) (apart 0 n)
 
-  pub offers_of_fit : offers_fit (offers_of m homes cpus) ≡ true
-  unfolding offers_of
+  pub offers_of_fit : offers_fit (offers_by_distance m homes cpus) ≡ true
+  unfolding offers_by_distance
   offers_of_fit = fit_at 255 (omega arith)
 
   skipped : (c a : ℕ) (b : Bool) (rest : List Offer) → set.contains (of_weight m homes cpus a) c ≡ false → weight_in (cond b (offer_at m homes cpus a ∷ rest) rest) c ≡ weight_in rest c
@@ -114,14 +114,14 @@ module _ (m : Layout) (homes cpus : Ids) where
       here : set.contains (of_weight m homes cpus a) c ≡ true → weight_in (offer_at m homes cpus a ∷ from (a + 1) n) c ≡ Some a
       here there = rw there refl
 
-  pub weighs : (c : ℕ) (b : Bool) → set.contains cpus c ≡ b → (b ≡ true → weight m homes c < 255) → weight_in (offers_of m homes cpus) c ≡ cond b (Some (weight m homes c)) None
-  unfolding offers_of
+  pub weighs : (c : ℕ) (b : Bool) → set.contains cpus c ≡ b → (b ≡ true → weight m homes c < 255) → weight_in (offers_by_distance m homes cpus) c ≡ cond b (Some (weight m homes c)) None
+  unfolding offers_by_distance
   weighs c true has near = own_weight c 0 255 has (omega arith) (near refl)
   weighs c false none near = no_weight c 0 255 none
 
 -- what is available is allowed
 pub allowed_part : (allowed online cpus : Ids) (c : ℕ) → cpus ≡ set.intersection allowed online → set.contains cpus c ≡ true → set.contains allowed c ≡ true
-allowed_part allowed online cpus c is has = and_left _ _ (sym (contains-intersection allowed online c) ∙ ap (λ s. set.contains s c) (sym is) ∙ has)
+allowed_part allowed online cpus c is has = true_left _ _ (sym (contains-intersection allowed online c) ∙ ap (λ s. set.contains s c) (sym is) ∙ has)
 
 -- the cores of what is available are CPUs of it
 pub offered_part : (m : Layout) (allowed online : Ids) (c : ℕ) → set.contains (cores_in m (set.intersection allowed online)) c ≡ true → set.contains allowed c ≡ true
@@ -133,7 +133,7 @@ by_kind : (m : Layout) (online : Ids) (id : List ℕ) (d : Demand) (kind : Kind)
     → (c : ℕ) → weight_in_row row c ≡ cond (set.contains (offered m online d) c) (Some (weight m d.homes c)) None
 by_kind m online id d Shared row fits is c = absurd (cc)
 by_kind m online id d (Pinned count) row fits is c =
-    let same : record { id = id; demand = count / m.threads; offers = offers_of m d.homes (offered m online d) } ≡ row = cc in
+    let same : record { id = id; demand = count / m.threads; offers = offers_by_distance m d.homes (offered m online d) } ≡ row = cc in
     ap (λ (r : RowView). weight_in_row r c) (sym same)
     ∙ weighs m d.homes (offered m online d) c (set.contains (offered m online d) c) refl
     (λ has. fits.in_reach c (offered_part m d.allowed online c has))
@@ -143,7 +143,7 @@ rows_weigh m online id d row fits is c = by_kind m online id d d.kind row fits i
 
 -- a row of offers like these fits the limits
 pub row_of_fits : (m : Layout) (homes cpus : Ids) (id : List ℕ) (count : ℕ) → 1 ≤ count → count ≤ CPU_LIMIT
-    → row_fits (record { id = id; demand = count; offers = offers_of m homes cpus }) ≡ true
+    → row_fits (record { id = id; demand = count; offers = offers_by_distance m homes cpus }) ≡ true
 unfolding row_fits
 row_of_fits m homes cpus id count some few =
     and_from _ _ (grind (arith, nat_tests)) (and_from _ _ (below MAX_DEMAND refl) (offers_of_fit m homes cpus))
@@ -188,7 +188,7 @@ pub asked_cores : (m : Layout) (d : Demand) (count : ℕ) → FitsMachine m d �
 asked_cores m d count fits is = by_cores m.threads d.kind d.allowed count is fits.kind fits.cores
 
 pub pinned_row_fits : (m : Layout) (id : List ℕ) (d : Demand) (count asks : ℕ) (cpus : Ids) (offers : List Offer) → FitsMachine m d → d.kind ≡ Pinned count
-    → asks ≡ count / m.threads → offers ≡ offers_of m d.homes cpus → row_fits (record { id = id; demand = asks; offers = offers }) ≡ true
+    → asks ≡ count / m.threads → offers ≡ offers_by_distance m d.homes cpus → row_fits (record { id = id; demand = asks; offers = offers }) ≡ true
 pinned_row_fits m id d count asks cpus offers fits is asks_for are =
     let few = asked d.kind d.allowed count is fits.kind in
     let cores = asked_cores m d count fits is in

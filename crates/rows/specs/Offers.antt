@@ -23,5 +23,5 @@ abbrev pub offers_below : Layout → Ids → Ids → ℕ → List Offer
 offers_below m homes cpus n = filter has_some (map (offer_at m homes cpus) (range_with_len 0 n))
 
 -- an offer for each distance at which a node can be reached, rising, with the CPUs there
-unfoldable pub offers_of : Layout → Ids → Ids → List Offer
-offers_of m homes cpus = offers_below m homes cpus 255
+unfoldable pub offers_by_distance : Layout → Ids → Ids → List Offer
+offers_by_distance m homes cpus = offers_below m homes cpus 255

@@ -7,13 +7,14 @@ use Rattle.std.proofs.lemmas.Bool.{true≢false}
 use Rattle.std.proofs.lemmas.Bool.Decides.{nat_tests}
 use Rattle.std.proofs.lemmas.List.Concat.{flat_map-cons}
 use Rattle.cpu_set.specs.Ids.{Ids}
-use Rattle.cpu_set.specs.Pointwise.{contains-empty, contains-intersection, contains-difference}
+use Rattle.cpu_set.specs.PointwiseLaws.{contains-empty, contains-intersection, contains-difference}
 use Rattle.certificate.specs.declared.Offer.{Offer}
-use Rattle.certificate.specs.Packed.{packed, distance_of, moves_of, distance_of-packed, moves_of-packed}
+use Rattle.certificate.specs.Packed.{packed, distance_of, moves_of}
+use Rattle.certificate.specs.PackedLemmas.{distance_of-packed, moves_of-packed}
 use Rattle.certificate.specs.Weight.{weight_in, weight}
 use Rattle.certificate.specs.ScaledLaws.{weight_with}
 use Rattle.rows.specs.Offers.{has_some}
-use Rattle.rows.specs.Scaled.{kept, moved, parted, ScaledRowsWeigh, DistancesStay, MovesAreUnheld}
+use Rattle.rows.specs.Scaled.{held_part, moved, parted, ScaledRowsWeigh, DistancesStay, MovesAreUnheld}
 
 -- a set with a CPU is not empty
 has_one : (s : Ids) (c : ℕ) → set.contains s c ≡ true → nat_lt 0 (set.len s) ≡ true
@@ -45,7 +46,7 @@ module _ (held : Ids) (c : ℕ) where
 
   one_offer : (o : Offer) (rest : List Offer) → weight_in (parted held o ++ rest) c ≡ cond (set.contains o.cpus c) (Some (more o.weight)) (weight_in rest c)
   one_offer o rest =
-      first_of_two (kept held o) (moved held o) rest c _ _ _ _ refl refl refl refl (has_one _ c) (has_one _ c)
+      first_of_two (held_part held o) (moved held o) rest c _ _ _ _ refl refl refl refl (has_one _ c) (has_one _ c)
       ∙ rw (contains-intersection o.cpus held c, contains-difference o.cpus held c) (by_cases (set.contains o.cpus c) (set.contains held c))
     where
       by_cases : (a b : Bool)

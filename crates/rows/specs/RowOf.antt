@@ -8,7 +8,7 @@ use Rattle.demand.specs.declared.Kind.{Kind}
 use Rattle.demand.specs.declared.Kind.TheVariants.{Pinned, Shared}
 use Rattle.demand.specs.declared.Demand.{Demand}
 use Rattle.certificate.specs.RowView.{RowView}
-use Rattle.rows.specs.Offers.{offers_of}
+use Rattle.rows.specs.Offers.{offers_by_distance}
 
 -- the CPUs that it may get now
 abbrev pub available : Ids → Demand → Ids
@@ -19,7 +19,7 @@ abbrev pub offered : Layout → Ids → Demand → Ids
 offered m online d = cores_in m (available online d)
 
 abbrev pub row_of_kind : Layout → Ids → List ℕ → Demand → Kind → Option RowView
-row_of_kind m online id d (Pinned count) = Some (record { id = id; demand = count / m.threads; offers = offers_of m d.homes (offered m online d) })
+row_of_kind m online id d (Pinned count) = Some (record { id = id; demand = count / m.threads; offers = offers_by_distance m d.homes (offered m online d) })
 row_of_kind m online id d Shared = None
 
 -- the row of a container that asks for CPUs of its own: its demand in cores, and the offers of the cores that it may get

@@ -17,8 +17,8 @@ abbrev pub are_distances : List Offer → Bool
 are_distances offers = list_all (λ o. nat_le o.weight 254) offers
 
 -- the offer's CPUs that are held
-abbrev pub kept : Ids → Offer → Offer
-kept held o = record { weight = packed o.weight 0; cpus = set.intersection o.cpus held }
+abbrev pub held_part : Ids → Offer → Offer
+held_part held o = record { weight = packed o.weight 0; cpus = set.intersection o.cpus held }
 
 -- those that are not: each is a move
 abbrev pub moved : Ids → Offer → Offer
@@ -27,7 +27,7 @@ moved held o = record { weight = packed o.weight 1; cpus = set.difference o.cpus
 -- an offer in two parts: the CPUs that are held, and those that are not, which are a move each. A part without a CPU is left
 -- out.
 abbrev pub parted : Ids → Offer → List Offer
-parted held o = filter has_some (kept held o ∷ moved held o ∷ [])
+parted held o = filter has_some (held_part held o ∷ moved held o ∷ [])
 
 -- the row with each offer parted
 abbrev pub scaled : Ids → RowView → RowView

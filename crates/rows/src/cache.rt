@@ -5,11 +5,11 @@ ghost use Rattle.machine.specs.Cores.{cores_in};
 ghost use Rattle.machine.specs.Layout.{Layout};
 ghost use Rattle.machine.specs.Weight.{AreHomes};
 ghost use Rattle.rows.specs.Reach.{AreInReach};
-ghost use Rattle.rows.specs.Offers.{has_some, offers_of};
+ghost use Rattle.rows.specs.Offers.{has_some, offers_by_distance};
 ghost use Rattle.rows.specs.Scaled.{are_distances, parted};
 ghost use Rattle.rows.specs.CachedOffers.{IsCached, IsCachedFor};
 
-use crate::offers::offers_of;
+use crate::offers::offers_by_distance;
 use crate::parts::parts_of;
 use certificate::Offers;
 use cpu_set::IdSet;
@@ -75,7 +75,7 @@ pub(crate) fn parts_among(
     requires homes { AreHomes machine.now homes.now }
     requires cache { All (IsCached machine.now) cache.old.items }
     ensures parts { IfOk result (λ parts. parts ≡ flat_map (parted (cores_in machine.now held.now))
-        (offers_of machine.now homes.now (cores_in machine.now cpus.now))) }
+        (offers_by_distance machine.now homes.now (cores_in machine.now cpus.now))) }
     ensures cache { All (IsCached machine.now) cache.new.items }
 {
     if let Some(cached) = find(cache.as_slice(), homes, cpus) {
@@ -105,12 +105,12 @@ fn core_offers(
 ) -> Result<Offers, AllocError>
     requires reach { AreInReach machine.now homes.now cpus.now }
     requires homes { AreHomes machine.now homes.now }
-    ensures { IfOk result (λ offers. offers ≡ offers_of machine.now homes.now (cores_in machine.now cpus.now)) }
+    ensures { IfOk result (λ offers. offers ≡ offers_by_distance machine.now homes.now (cores_in machine.now cpus.now)) }
 {
-    if machine.threads() == 1 {
-        return offers_of(alloc, machine, homes, cpus);
+    if machine.is_single() {
+        return offers_by_distance(alloc, machine, homes, cpus);
     }
-    offers_of(alloc, machine, homes, &machine.cores_in(cpus))
+    offers_by_distance(alloc, machine, homes, &machine.cores_in(cpus))
 }
 
 /// Offers in parts, for a container that holds these CPUs.
@@ -124,7 +124,7 @@ fn core_parts(
     requires some { IsTrue (list_all has_some offers.now) }
     ensures { IfOk result (λ parts. parts ≡ flat_map (parted (cores_in machine.now held.now)) offers.now) }
 {
-    if machine.threads() == 1 {
+    if machine.is_single() {
         return parts_of(alloc, offers, held);
     }
     parts_of(alloc, offers, &machine.cores_in(held))

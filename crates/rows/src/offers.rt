@@ -2,7 +2,7 @@
 ghost use Rattle.std.specs.Prelude.{◌≡◌, IfOk};
 ghost use Rattle.machine.specs.Weight.{AreHomes};
 ghost use Rattle.rows.specs.Reach.{AreInReach};
-ghost use Rattle.rows.specs.Offers.{offers_of};
+ghost use Rattle.rows.specs.Offers.{offers_by_distance};
 
 use crate::chains::chains_of;
 use crate::parts::push_some;
@@ -14,7 +14,7 @@ use std::alloc::{AllocError, Global};
 /// An offer for each weight that one of the CPUs has for a container with these homes, the least weight first.
 ///
 /// The farthest nodes, which are often most of them, are not looked at: what is left is theirs.
-pub(crate) fn offers_of(
+pub(crate) fn offers_by_distance(
     alloc: Global,
     machine: &Machine,
     homes: &IdSet,
@@ -22,7 +22,7 @@ pub(crate) fn offers_of(
 ) -> Result<Offers, AllocError>
     requires reach { AreInReach machine.now homes.now cpus.now }
     requires homes { AreHomes machine.now homes.now }
-    ensures { IfOk result (λ offers. offers ≡ offers_of machine.now homes.now cpus.now) }
+    ensures { IfOk result (λ offers. offers ≡ offers_by_distance machine.now homes.now cpus.now) }
 {
     let chains = chains_of(machine.weights(homes));
     let farthest = chains.farthest();

@@ -1,3 +1,4 @@
+//! The row of one container.
 ghost use Rattle.std.specs.Prelude.{◌≡◌, option_map, All, IsTrue, IfOk, IfSome};
 ghost use Rattle.certificate.specs.Limits.{row_fits};
 ghost use Rattle.demand.specs.FitsMachine.{FitsMachine};

@@ -16,6 +16,7 @@ use Rattle.certificate_text.specs.Verdict.{IsVerdict}
 use Rattle.certificate_text.specs.Written.{text_of}
 use Rattle.apply_plan.specs.declared.Progress.{Progress}
 use Rattle.apply_plan.specs.declared.Progress.TheVariants.{More, Done}
+use Rattle.kernel_model.specs.declared.KernelFault.TheVariants.{NoPids}
 use Rattle.node.specs.declared.fault.NodeFault.{NodeFault}
 use Rattle.node.specs.declared.fault.NodeFault.TheVariants.{Busy, NoHandover, Kernel}
 use Rattle.node.specs.declared.outcome.Outcome.{Outcome}
@@ -78,6 +79,7 @@ place_last : (cpus : Ids) (old new : NodeState) (id bundle config : List ℕ) (r
 place_last cpus old new id bundle config (Ok pid) c = ap (λ (n : NodeState). n.last) c.is
 place_last cpus old new id bundle config (Err Memory) (inl n) = ap (λ (m : NodeState). m.last) n.is
 place_last cpus old new id bundle config (Err Memory) (inr same) = ap (λ (n : NodeState). n.last) same.2
+place_last cpus old new id bundle config (Err (Fault (Kernel NoPids))) same = ap (λ (n : NodeState). n.last) same.is
 place_last cpus old new id bundle config (Err (Fault (Kernel fault))) n = ap (λ (m : NodeState). m.last) n.is
 place_last cpus old new id bundle config (Err (Fault fault)) same = ap (λ (n : NodeState). n.last) same.1
 

@@ -2,7 +2,8 @@
 use Rattle.std.proofs.Common.{◌≡◌, ℕ, List, ◌∷◌, ◌++◌, sym, subst, append_assoc, codes, Option, Result}
 use Rattle.std.specs.List.{flat_map}
 use Rattle.byte_output.specs.Output.{Writes}
-use Rattle.byte_output.specs.Sending.{HasSent, Writes-then}
+use Rattle.byte_output.specs.Sending.{HasSent}
+use Rattle.byte_output.specs.SendingLemmas.{Writes-then}
 use Rattle.node.specs.declared.container.Status.{Status}
 use Rattle.runtime.specs.AnswerTexts.{entry_line, listing_text}
 

@@ -3,7 +3,7 @@ use Rattle.std.proofs.Common.{ℕ, List, [], ◌∷◌, Option, Some, None, inl,
 use Rattle.node.specs.NodeState.{NodeState}
 use Rattle.script.specs.Commands.{Asked}
 use Rattle.script.specs.Commands as ask
-use Rattle.script.specs.Lines.{kept, words_of}
+use Rattle.script.specs.Lines.{line_kept, words_of}
 use Rattle.script.specs.Requests.{Wanted, nothing, bad, asks, request_of}
 use Rattle.script.specs.Runs.{AnswersLine, AnswersRequest, Runs}
 use Rattle.runtime.specs.Answered.{Answered, AnsweredBy, AnswersBy}
@@ -47,4 +47,4 @@ module _ (finds : List ℕ → Option (List ℕ) → Type 0) where
   pub by_lines : (old new : RuntimeState) (lines : List (List ℕ)) (text : List ℕ) → Runs (AnsweredBy finds) old lines text new → Runs Answered old lines text new
   by_lines old new [] text h = h
   by_lines old new (line ∷ lines) text (mid, first, more, answers, rest, cut) =
-      (mid, first, more, by_line old mid (kept line) first answers, by_lines mid new lines more rest, cut)
+      (mid, first, more, by_line old mid (line_kept line) first answers, by_lines mid new lines more rest, cut)

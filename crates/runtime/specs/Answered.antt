@@ -22,11 +22,11 @@ use Rattle.node.specs.Rebalance.{Begins, StepsOn, Rebalances, ShowsCertificate}
 use Rattle.node.specs.Written.{CreateWrites}
 use Rattle.node.specs.Machine.{InKernel}
 use Rattle.node.specs.Sets.{HasSets}
-use Rattle.node.specs.Listed.{listed}
+use Rattle.node.specs.Listed.{listing}
 use Rattle.node.specs.Shown.{Shows}
 use Rattle.script.specs.Commands.{Asked}
 use Rattle.script.specs.Commands as ask
-use Rattle.runtime.specs.RuntimeState.{RuntimeState}
+use Rattle.runtime.specs.RuntimeState.{RuntimeState, Told}
 use Rattle.runtime.specs.Found.{IsFound, IsSeen}
 use Rattle.runtime.specs.RefusalLine.{refusal_line}
 use Rattle.runtime.specs.OutcomeTexts.{outcome_text, progress_line}
@@ -101,7 +101,7 @@ AnswersState old id text new =
     (r : Result (String Global) (OrMemory NodeFault)) × Shows old id r × (text ≡ answer_text state_line of_either r) × (new ≡ old)
 
 abbrev pub AnswersList : NodeState → List ℕ → NodeState → Type 0
-AnswersList old text new = (text ≡ listing_text (listed old)) × (new ≡ old)
+AnswersList old text new = (text ≡ listing_text (listing old)) × (new ≡ old)
 
 abbrev pub AnswersSets : NodeState → List ℕ → List ℕ → NodeState → Type 0
 AnswersSets old id text new = (r : Result Sets NodeFault) × HasSets old id r × (text ≡ answer_text sets_line Node r) × (new ≡ old)
@@ -159,10 +159,14 @@ AnswersBy finds old (ask.exit pid) text new = AnswersExit old pid text new
 AnswersBy finds old (ask.offline cpu) text new = AnswersOffline old cpu text new
 AnswersBy finds old (ask.online cpu) text new = AnswersOnline old cpu text new
 
--- the text answers a command by what is told of the bundles; that stays
-abbrev pub Answered : RuntimeState → Asked → List ℕ → RuntimeState → Type 0
-Answered old command text new = AnswersBy (IsFound old.told) old.node command text new.node × (new ≡ record old { node = new.node })
+-- the text answers a command where this may be seen of a bundle, by what is told of all of them; what is told stays
+abbrev pub AnsweredWhere : (Told → List ℕ → Option (List ℕ) → Type 0) → RuntimeState → Asked → List ℕ → RuntimeState → Type 0
+AnsweredWhere sees old command text new = AnswersBy (sees old.told) old.node command text new.node × (new ≡ record old { node = new.node })
 
--- the text answers a command by what is told of the bundles and what looks at them may find; what is told stays
+-- the text answers a command by what is told of the bundles
+abbrev pub Answered : RuntimeState → Asked → List ℕ → RuntimeState → Type 0
+Answered = AnsweredWhere IsFound
+
+-- the text answers a command by what is told of the bundles and what looks at them may find
 abbrev pub AnsweredBy : (List ℕ → Option (List ℕ) → Type 0) → RuntimeState → Asked → List ℕ → RuntimeState → Type 0
-AnsweredBy finds old command text new = AnswersBy (IsSeen finds old.told) old.node command text new.node × (new ≡ record old { node = new.node })
+AnsweredBy finds = AnsweredWhere (IsSeen finds)

@@ -17,6 +17,7 @@ use Rattle.script.specs.Commands as ask
 use Rattle.script.specs.Runs.{Runs}
 use Rattle.runtime.specs.Answered.{Answered}
 use Rattle.runtime.specs.RuntimeState.{RuntimeState}
+use Rattle.runtime.specs.Found.{IsFound}
 use Rattle.runtime.specs.ScriptLaws.{AreCalls}
 
 -- the verdict on what was told last, with one call or event more, by cores. Of a plan it is the total and how many cores
@@ -40,6 +41,6 @@ told_last told old (event ∷ later) new (mid, step, run) = told_last (told_with
 -- their calls told last
 abbrev pub CertificatesAreTold : Type 0
 CertificatesAreTold = (first old new : RuntimeState) (lines : List (List ℕ)) (text printed : List ℕ) (verdict : Verdict)
-    → IsNode first.node → Runs Answered first lines text old → (calls : AreCalls first lines text old)
+    → IsNode first.node → Runs Answered first lines text old → (calls : AreCalls IsFound first lines text old)
     → told_last None first.node calls.events old.node calls.run ≡ Some verdict
     → Answered old ask.certificate printed new → IsVerdict printed verdict

@@ -1,9 +1,10 @@
 -- A node whose kernel's writes are made in the files of a cgroup tree.
-use Rattle.std.specs.Prelude.{Bool, ℕ, List, map}
+use Rattle.std.specs.Prelude.{◌≡◌, ◌⊎◌, Bool, ℕ, List, [], map}
 use Rattle.cpu_set.specs.Ids.{Ids}
 use Rattle.faults.specs.declared.OrMemory.{OrMemory}
+use Rattle.faults.specs.declared.OrMemory.TheVariants.{Memory}
 use Rattle.apply_plan.specs.Holders.{IsSafe}
-use Rattle.cgroup_tree.specs.Asked.{Asked}
+use Rattle.cgroup_tree.specs.Asked.{Asked, Opening}
 use Rattle.cgroup_tree.specs.Events.{IsMirrored}
 use Rattle.cgroup_tree.specs.Site.{Site}
 use Rattle.cgroup_tree.specs.Stands.{FilesStand}
@@ -22,7 +23,7 @@ site_of m root memory adopt = record { root = root; memory = memory; adopt = ado
 
 -- all that was asked of the files, which were opened so, is what the calls of the node's kernel stand for. They stand in
 -- their order, from its beginning on. If the files do what they answer, each group's have what it requests, and that is safe.
-pub record IsMirroredNode {F : Type 0} (asked : F → Bool → List Asked → Type 0) (site : Site) (n : NodeState) : Type 0 where
+pub record IsMirroredNode {F : Type 0} (asked : F → Opening → List Asked → Type 0) (site : Site) (n : NodeState) : Type 0 where
   pub files : F
   pub mirrored : IsMirrored asked site n.kernel files
   pub stands : FilesStand asked site n.kernel files
@@ -30,10 +31,15 @@ pub record IsMirroredNode {F : Type 0} (asked : F → Bool → List Asked → Ty
 
 -- no node was made of a machine, since a kernel like this refused its group; all that was asked of its files is what that
 -- call stands for
-pub record IsNotBooted {F : Type 0} (asked : F → Bool → List Asked → Type 0) (site : Site) (m : Layout) (error : OrMemory KernelFault) : Type 0 where
+pub record IsNotBooted {F : Type 0} (asked : F → Opening → List Asked → Type 0) (site : Site) (m : Layout) (error : OrMemory KernelFault) : Type 0 where
   pub first : KernelState
   pub its : IsKernelOf m first
   pub kernel : KernelState
   pub refused : OpensNot first error kernel
   pub files : F
   pub mirrored : IsMirrored asked site kernel files
+
+-- no node was made, and this holds of what was asked of the files: nothing, where an allocation failed before; or what the call
+-- that was refused stands for
+abbrev pub BootsNot : {F : Type 0} → (F → Opening → List Asked → Type 0) → Site → Layout → OrMemory KernelFault → (List Asked → Type 0) → Type 0
+BootsNot asked site m error Leaves = ((error ≡ Memory) × Leaves []) ⊎ ((its : IsNotBooted asked site m error) × Leaves its.mirrored.calls)

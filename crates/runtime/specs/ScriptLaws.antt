@@ -19,18 +19,18 @@ use Rattle.node.specs.Headline.{IsShort}
 use Rattle.node.specs.Tells.{TellsShortage}
 use Rattle.node.specs.RebalanceLeaves.{RebalanceLeaves}
 use Rattle.node.specs.IsNode.{IsNode}
-use Rattle.node.specs.Listed.{listed}
+use Rattle.node.specs.Listed.{listing}
 use Rattle.node.specs.NodeState.{NodeState}
 use Rattle.node.specs.Rebalance.{Begins, Begun}
 use Rattle.node.specs.Machine.{Event, Create, Adopt, Update, Start, Kill, Delete, Rebalance, Begin, StepOn, Ask, Fork, Exit, Offline, Online, Step, Run, RunsRebalance}
 use Rattle.node.specs.Questions.{Question, State, ListAll, SetsOf, Pool, PhaseIs, ShowCertificate}
 use Rattle.script.specs.Commands.{Asked}
 use Rattle.script.specs.Commands as ask
-use Rattle.script.specs.Lines.{kept, words_of}
+use Rattle.script.specs.Lines.{line_kept, words_of}
 use Rattle.script.specs.Requests.{Wanted, nothing, bad, asks, request_of}
 use Rattle.script.specs.Runs.{AnswersLine, AnswersRequest, Runs}
 use Rattle.runtime.specs.AnswerTexts.{of_either, of_kernel, of_kernel_fault, answer_text, done_line, pid_line, set_text, sets_line, listing_text, phase_line}
-use Rattle.runtime.specs.Answered.{Answered, AnswersBy, NamesCpus, state_line}
+use Rattle.runtime.specs.Answered.{Answered, AnsweredWhere, AnswersBy, NamesCpus, state_line}
 use Rattle.runtime.specs.Found.{IsFound}
 use Rattle.runtime.specs.OutcomeTexts.{outcome_text, progress_line}
 use Rattle.runtime.specs.RefusalLine.{refusal_line}
@@ -64,97 +64,101 @@ event_text new (Exit pid answer) = answer_text done_line of_kernel_fault answer
 event_text new (Offline cpu answer) = answer_text done_line of_kernel_fault answer
 event_text new (Online cpu answer) = answer_text done_line of_kernel_fault answer
 
+-- what may be seen of a bundle: its config, or none
+abbrev pub Sees : Type 1
+Sees = List ℕ → Option (List ℕ) → Type 0
+
 -- the call or event that a command asks for. Of a `create`, an `adopt` or an `update` it has the config that is found of the
 -- bundle. Of an `adopt` it has the CPUs that the list names.
-abbrev pub IsFor : Told → Asked → Event → Type 0
-IsFor told (ask.create id bundle) event =
-    (config : List ℕ) × (answer : Result ℕ (OrMemory NodeFault)) × IsFound told bundle (Some config) × (event ≡ Create id bundle config answer)
-IsFor told (ask.adopt id bundle list) event =
-    (config : List ℕ) × (cpus : Ids) × (answer : Result ℕ (OrMemory NodeFault)) × IsFound told bundle (Some config) × NamesCpus list (Ok cpus)
+abbrev pub IsFor : Sees → Asked → Event → Type 0
+IsFor sees (ask.create id bundle) event =
+    (config : List ℕ) × (answer : Result ℕ (OrMemory NodeFault)) × sees bundle (Some config) × (event ≡ Create id bundle config answer)
+IsFor sees (ask.adopt id bundle list) event =
+    (config : List ℕ) × (cpus : Ids) × (answer : Result ℕ (OrMemory NodeFault)) × sees bundle (Some config) × NamesCpus list (Ok cpus)
     × (event ≡ Adopt id bundle config cpus answer)
-IsFor told (ask.update id bundle) event =
-    (config : List ℕ) × (answer : Result (Unit {0}) (OrMemory NodeFault)) × IsFound told bundle (Some config) × (event ≡ Update id bundle config answer)
-IsFor told (ask.start id) event = (answer : Result (Unit {0}) NodeFault) × (event ≡ Start id answer)
-IsFor told (ask.kill id signal) event = (answer : Result (Unit {0}) NodeFault) × (event ≡ Kill id signal answer)
-IsFor told (ask.delete id) event = (answer : Result (Unit {0}) NodeFault) × (event ≡ Delete id answer)
-IsFor told (ask.state id) event = (answer : Result (String Global) (OrMemory NodeFault)) × (event ≡ Ask (State id answer))
-IsFor told ask.list event = (answer : List (List ℕ × Status)) × (event ≡ Ask (ListAll answer))
-IsFor told (ask.sets id) event = (answer : Result Sets NodeFault) × (event ≡ Ask (SetsOf id answer))
-IsFor told ask.rebalance event = (answer : Result Outcome (OrMemory NodeFault)) × (event ≡ Rebalance answer)
-IsFor told ask.begin event = (answer : Result Outcome (OrMemory NodeFault)) × (event ≡ Begin answer)
-IsFor told ask.step event = (answer : Result Progress NodeFault) × (event ≡ StepOn answer)
-IsFor told ask.phase event = (answer : Phase) × (event ≡ Ask (PhaseIs answer))
-IsFor told ask.certificate event = (answer : Result Certificate NodeFault) × (event ≡ Ask (ShowCertificate answer))
-IsFor told (ask.fork pid) event = (answer : Result ℕ (OrMemory KernelFault)) × (event ≡ Fork pid answer)
-IsFor told (ask.exit pid) event = (answer : Result (Unit {0}) KernelFault) × (event ≡ Exit pid answer)
-IsFor told (ask.offline cpu) event = (answer : Result (Unit {0}) KernelFault) × (event ≡ Offline cpu answer)
-IsFor told (ask.online cpu) event = (answer : Result (Unit {0}) KernelFault) × (event ≡ Online cpu answer)
+IsFor sees (ask.update id bundle) event =
+    (config : List ℕ) × (answer : Result (Unit {0}) (OrMemory NodeFault)) × sees bundle (Some config) × (event ≡ Update id bundle config answer)
+IsFor sees (ask.start id) event = (answer : Result (Unit {0}) NodeFault) × (event ≡ Start id answer)
+IsFor sees (ask.kill id signal) event = (answer : Result (Unit {0}) NodeFault) × (event ≡ Kill id signal answer)
+IsFor sees (ask.delete id) event = (answer : Result (Unit {0}) NodeFault) × (event ≡ Delete id answer)
+IsFor sees (ask.state id) event = (answer : Result (String Global) (OrMemory NodeFault)) × (event ≡ Ask (State id answer))
+IsFor sees ask.list event = (answer : List (List ℕ × Status)) × (event ≡ Ask (ListAll answer))
+IsFor sees (ask.sets id) event = (answer : Result Sets NodeFault) × (event ≡ Ask (SetsOf id answer))
+IsFor sees ask.rebalance event = (answer : Result Outcome (OrMemory NodeFault)) × (event ≡ Rebalance answer)
+IsFor sees ask.begin event = (answer : Result Outcome (OrMemory NodeFault)) × (event ≡ Begin answer)
+IsFor sees ask.step event = (answer : Result Progress NodeFault) × (event ≡ StepOn answer)
+IsFor sees ask.phase event = (answer : Phase) × (event ≡ Ask (PhaseIs answer))
+IsFor sees ask.certificate event = (answer : Result Certificate NodeFault) × (event ≡ Ask (ShowCertificate answer))
+IsFor sees (ask.fork pid) event = (answer : Result ℕ (OrMemory KernelFault)) × (event ≡ Fork pid answer)
+IsFor sees (ask.exit pid) event = (answer : Result (Unit {0}) KernelFault) × (event ≡ Exit pid answer)
+IsFor sees (ask.offline cpu) event = (answer : Result (Unit {0}) KernelFault) × (event ≡ Offline cpu answer)
+IsFor sees (ask.online cpu) event = (answer : Result (Unit {0}) KernelFault) × (event ≡ Online cpu answer)
 
 -- a command makes this one, once, and prints the text of its answer
-pub record IsCall (told : Told) (command : Asked) (old : NodeState) (text : List ℕ) (new : NodeState) : Type 0 where
+pub record IsCall (sees : Sees) (command : Asked) (old : NodeState) (text : List ℕ) (new : NodeState) : Type 0 where
   pub event : Event
-  pub its : IsFor told command event
+  pub its : IsFor sees command event
   pub step : Step old event new
   pub answer : text ≡ event_text new event
 
 -- an allocation for the bundle's config failed, or no such bundle is found
-abbrev pub FindsNone : Told → List ℕ → List ℕ → Type 0
-FindsNone told bundle text = (text ≡ refusal_line Memory) ⊎ ((text ≡ refusal_line NoBundle) × IsFound told bundle None)
+abbrev pub FindsNone : Sees → List ℕ → List ℕ → Type 0
+FindsNone sees bundle text = (text ≡ refusal_line Memory) ⊎ ((text ≡ refusal_line NoBundle) × sees bundle None)
 
 -- so that a `create` or an `update` makes no call; nor does an `adopt` then, and where its list names no CPUs
-abbrev pub MakesNone : Told → Asked → List ℕ → Type 0
-MakesNone told (ask.create id bundle) text = FindsNone told bundle text
-MakesNone told (ask.adopt id bundle list) text =
-    FindsNone told bundle text ⊎ ((why : Refusal) × NamesCpus list (Err why) × (text ≡ refusal_line why))
-MakesNone told (ask.update id bundle) text = FindsNone told bundle text
-MakesNone told command text = ⊥
+abbrev pub MakesNone : Sees → Asked → List ℕ → Type 0
+MakesNone sees (ask.create id bundle) text = FindsNone sees bundle text
+MakesNone sees (ask.adopt id bundle list) text =
+    FindsNone sees bundle text ⊎ ((why : Refusal) × NamesCpus list (Err why) × (text ≡ refusal_line why))
+MakesNone sees (ask.update id bundle) text = FindsNone sees bundle text
+MakesNone sees command text = ⊥
 
 -- a command is refused with no call
-abbrev pub IsNoCall : Told → Asked → NodeState → List ℕ → NodeState → Type 0
-IsNoCall told command old text new = MakesNone told command text × (new ≡ old)
+abbrev pub IsNoCall : Sees → Asked → NodeState → List ℕ → NodeState → Type 0
+IsNoCall sees command old text new = MakesNone sees command text × (new ≡ old)
 
 -- a command is answered by the text of the call or event that it asks for, also of a call that only reads. Two exceptions
 -- make no call. The bundle of a `create`, an `adopt` or an `update` is not found, or an allocation for its config failed. The
 -- list of an `adopt` names no CPUs.
-abbrev pub CommandsAreCalls : Type 0
-CommandsAreCalls = (old new : RuntimeState) (command : Asked) (text : List ℕ) → Answered old command text new
-    → IsCall old.told command old.node text new.node ⊎ IsNoCall old.told command old.node text new.node
+abbrev pub CommandsAreCalls : (Told → Sees) → Type 0
+CommandsAreCalls sees = (old new : RuntimeState) (command : Asked) (text : List ℕ) → AnsweredWhere sees old command text new
+    → IsCall (sees old.told) command old.node text new.node ⊎ IsNoCall (sees old.told) command old.node text new.node
 
 -- the calls and events that a command makes, one or none, and the text that it prints
-abbrev pub CommandMakes : Told → NodeState → Asked → List Event → List ℕ → NodeState → Type 0
-CommandMakes told old command events text new =
-    ((call : IsCall told command old text new) × (events ≡ call.event ∷ [])) ⊎ (IsNoCall told command old text new × (events ≡ []))
+abbrev pub CommandMakes : Sees → NodeState → Asked → List Event → List ℕ → NodeState → Type 0
+CommandMakes sees old command events text new =
+    ((call : IsCall sees command old text new) × (events ≡ call.event ∷ [])) ⊎ (IsNoCall sees command old text new × (events ≡ []))
 
 -- a line that asks for nothing makes none and prints nothing; a bad one makes none and is refused
-abbrev pub RequestMakes : Told → NodeState → Wanted → List Event → List ℕ → NodeState → Type 0
-RequestMakes told old nothing events text new = (events ≡ []) × (text ≡ []) × (new ≡ old)
-RequestMakes told old bad events text new = (events ≡ []) × (text ≡ codes "refused E110 BadLine\n") × (new ≡ old)
-RequestMakes told old (asks command) events text new = CommandMakes told old command events text new
+abbrev pub RequestMakes : Sees → NodeState → Wanted → List Event → List ℕ → NodeState → Type 0
+RequestMakes sees old nothing events text new = (events ≡ []) × (text ≡ []) × (new ≡ old)
+RequestMakes sees old bad events text new = (events ≡ []) × (text ≡ codes "refused E110 BadLine\n") × (new ≡ old)
+RequestMakes sees old (asks command) events text new = CommandMakes sees old command events text new
 
 -- what a line makes and prints; one that is too long makes none and is refused
-abbrev pub LineMakes : Told → NodeState → Option (List ℕ) → List Event → List ℕ → NodeState → Type 0
-LineMakes told old None events text new = (events ≡ []) × (text ≡ codes "refused E112 LineTooLong\n") × (new ≡ old)
-LineMakes told old (Some line) events text new = RequestMakes told old (request_of (words_of line)) events text new
+abbrev pub LineMakes : Sees → NodeState → Option (List ℕ) → List Event → List ℕ → NodeState → Type 0
+LineMakes sees old None events text new = (events ≡ []) × (text ≡ codes "refused E112 LineTooLong\n") × (new ≡ old)
+LineMakes sees old (Some line) events text new = RequestMakes sees old (request_of (words_of line)) events text new
 
 -- what lines make and print, one after another
-abbrev pub LinesMake : Told → NodeState → List (List ℕ) → List Event → List ℕ → NodeState → Type 0
-LinesMake told old [] events text new = (events ≡ []) × (text ≡ []) × (new ≡ old)
-LinesMake told old (line ∷ lines) events text new = (mid : NodeState) × (here later : List Event) × (first more : List ℕ)
-    × LineMakes told old (kept line) here first mid × LinesMake told mid lines later more new
+abbrev pub LinesMake : Sees → NodeState → List (List ℕ) → List Event → List ℕ → NodeState → Type 0
+LinesMake sees old [] events text new = (events ≡ []) × (text ≡ []) × (new ≡ old)
+LinesMake sees old (line ∷ lines) events text new = (mid : NodeState) × (here later : List Event) × (first more : List ℕ)
+    × LineMakes sees old (line_kept line) here first mid × LinesMake sees mid lines later more new
     × (events ≡ here ++ later) × (text ≡ first ++ more)
 
 -- the lines make these calls and events, at most one a line, and print the text. These lead from the one node to the other,
 -- and what is told of the bundles stays.
-pub record AreCalls (old : RuntimeState) (lines : List (List ℕ)) (text : List ℕ) (new : RuntimeState) : Type 0 where
+pub record AreCalls (sees : Told → Sees) (old : RuntimeState) (lines : List (List ℕ)) (text : List ℕ) (new : RuntimeState) : Type 0 where
   pub events : List Event
-  pub made : LinesMake old.told old.node lines events text new.node
+  pub made : LinesMake (sees old.told) old.node lines events text new.node
   pub few : length events ≤ length lines
   pub run : Run old.node events new.node
   pub told : new.told ≡ old.told
 
 -- answered lines are calls and events in this way
-abbrev pub LinesAreCalls : Type 0
-LinesAreCalls = (old new : RuntimeState) (lines : List (List ℕ)) (text : List ℕ) → Runs Answered old lines text new → AreCalls old lines text new
+abbrev pub LinesAreCalls : (Told → Sees) → Type 0
+LinesAreCalls sees = (old new : RuntimeState) (lines : List (List ℕ)) (text : List ℕ) → Runs (AnsweredWhere sees) old lines text new → AreCalls sees old lines text new
 
 -- whatever lines of a script over a node were answered before, a rebalance leaves what the headline says of an outcome or a
 -- refusal. With it stand what the certificate tells and what a failed write leaves. Its answer is the text of that.
@@ -203,84 +207,84 @@ pub record IsRebalanceOf (first : RuntimeState) (before after : List (List ℕ))
 -- each line of a whole script that asks for a rebalance is such
 abbrev pub ScriptsRebalance : Type 0
 ScriptsRebalance = (first last : RuntimeState) (before after : List (List ℕ)) (line text : List ℕ) → IsNode first.node
-    → kept line ≡ Some line → request_of (words_of line) ≡ asks ask.rebalance → Runs Answered first (before ++ line ∷ after) text last
+    → line_kept line ≡ Some line → request_of (words_of line) ≡ asks ask.rebalance → Runs Answered first (before ++ line ∷ after) text last
     → IsRebalanceOf first before after text last
 
 Run-append : (old mid new : NodeState) (first later : List Event) → Run old first mid → Run mid later new → Run old (first ++ later) new
 Run-append old mid new [] later e run = subst (λ n. Run n later new) e run
 Run-append old mid new (event ∷ first) later (next, step, rest) run = (next, step, Run-append next mid new first later rest run)
 
-is_call : (told : Told) (old : NodeState) (command : Asked) (text : List ℕ) (new : NodeState) → AnswersBy (IsFound told) old command text new
-    → IsCall told command old text new ⊎ IsNoCall told command old text new
-is_call told old (ask.create id bundle) text new (inl h) = inr (inl h.0, h.1)
-is_call told old (ask.create id bundle) text new (inr (None, found, h)) = inr (inr (h.0, found), h.1)
-is_call told old (ask.create id bundle) text new (inr (Some config, found, (r, h, writes, e))) = inl (record { event = Create id bundle config r; its = (config, r, found, refl); step = h; answer = e })
-is_call told old (ask.adopt id bundle list) text new (inl h) = inr (inl (inl h.0), h.1)
-is_call told old (ask.adopt id bundle list) text new (inr (None, found, h)) = inr (inl (inr (h.0, found)), h.1)
-is_call told old (ask.adopt id bundle list) text new (inr (Some config, found, (Err why, names, h))) = inr (inr (why, names, h.0), h.1)
-is_call told old (ask.adopt id bundle list) text new (inr (Some config, found, (Ok cpus, names, (r, h, writes, e)))) =
+is_call : (sees : Sees) (old : NodeState) (command : Asked) (text : List ℕ) (new : NodeState) → AnswersBy sees old command text new
+    → IsCall sees command old text new ⊎ IsNoCall sees command old text new
+is_call sees old (ask.create id bundle) text new (inl h) = inr (inl h.0, h.1)
+is_call sees old (ask.create id bundle) text new (inr (None, found, h)) = inr (inr (h.0, found), h.1)
+is_call sees old (ask.create id bundle) text new (inr (Some config, found, (r, h, writes, e))) = inl (record { event = Create id bundle config r; its = (config, r, found, refl); step = h; answer = e })
+is_call sees old (ask.adopt id bundle list) text new (inl h) = inr (inl (inl h.0), h.1)
+is_call sees old (ask.adopt id bundle list) text new (inr (None, found, h)) = inr (inl (inr (h.0, found)), h.1)
+is_call sees old (ask.adopt id bundle list) text new (inr (Some config, found, (Err why, names, h))) = inr (inr (why, names, h.0), h.1)
+is_call sees old (ask.adopt id bundle list) text new (inr (Some config, found, (Ok cpus, names, (r, h, writes, e)))) =
     inl (record { event = Adopt id bundle config cpus r; its = (config, cpus, r, found, names, refl); step = h; answer = e })
-is_call told old (ask.update id bundle) text new (inl h) = inr (inl h.0, h.1)
-is_call told old (ask.update id bundle) text new (inr (None, found, h)) = inr (inr (h.0, found), h.1)
-is_call told old (ask.update id bundle) text new (inr (Some config, found, (r, h, e))) = inl (record { event = Update id bundle config r; its = (config, r, found, refl); step = h; answer = e })
-is_call told old (ask.start id) text new (r, h, e) = inl (record { event = Start id r; its = (r, refl); step = h; answer = e })
-is_call told old (ask.kill id signal) text new (r, h, e) = inl (record { event = Kill id signal r; its = (r, refl); step = h; answer = e })
-is_call told old (ask.delete id) text new (r, h, e) = inl (record { event = Delete id r; its = (r, refl); step = h; answer = e })
-is_call told old (ask.state id) text new (r, h, e, same) = inl (record { event = Ask (State id r); its = (r, refl); step = (h, same); answer = e })
-is_call told old ask.list text new h = inl (record { event = Ask (ListAll (listed old)); its = (listed old, refl); step = (refl, h.1); answer = h.0 })
-is_call told old (ask.sets id) text new (r, h, e, same) = inl (record { event = Ask (SetsOf id r); its = (r, refl); step = (h, same); answer = e })
-is_call told old ask.rebalance text new (r, h, e) = inl (record { event = Rebalance r; its = (r, refl); step = h; answer = e })
-is_call told old ask.begin text new (r, h, e) = inl (record { event = Begin r; its = (r, refl); step = h; answer = e })
-is_call told old ask.step text new (r, h, e) = inl (record { event = StepOn r; its = (r, refl); step = h; answer = e })
-is_call told old ask.phase text new h = inl (record { event = Ask (PhaseIs old.phase); its = (old.phase, refl); step = (refl, h.1); answer = h.0 })
-is_call told old ask.certificate text new (r, h, e, same) = inl (record { event = Ask (ShowCertificate r); its = (r, refl); step = (h, same); answer = e })
-is_call told old (ask.fork pid) text new (r, h, rest, e) = inl (record { event = Fork pid r; its = (r, refl); step = (h, rest); answer = e })
-is_call told old (ask.exit pid) text new (r, h, rest, e) = inl (record { event = Exit pid r; its = (r, refl); step = (h, rest); answer = e })
-is_call told old (ask.offline cpu) text new (r, h, rest, e) = inl (record { event = Offline cpu r; its = (r, refl); step = (h, rest); answer = e })
-is_call told old (ask.online cpu) text new (r, h, rest, e) = inl (record { event = Online cpu r; its = (r, refl); step = (h, rest); answer = e })
+is_call sees old (ask.update id bundle) text new (inl h) = inr (inl h.0, h.1)
+is_call sees old (ask.update id bundle) text new (inr (None, found, h)) = inr (inr (h.0, found), h.1)
+is_call sees old (ask.update id bundle) text new (inr (Some config, found, (r, h, e))) = inl (record { event = Update id bundle config r; its = (config, r, found, refl); step = h; answer = e })
+is_call sees old (ask.start id) text new (r, h, e) = inl (record { event = Start id r; its = (r, refl); step = h; answer = e })
+is_call sees old (ask.kill id signal) text new (r, h, e) = inl (record { event = Kill id signal r; its = (r, refl); step = h; answer = e })
+is_call sees old (ask.delete id) text new (r, h, e) = inl (record { event = Delete id r; its = (r, refl); step = h; answer = e })
+is_call sees old (ask.state id) text new (r, h, e, same) = inl (record { event = Ask (State id r); its = (r, refl); step = (h, same); answer = e })
+is_call sees old ask.list text new h = inl (record { event = Ask (ListAll (listing old)); its = (listing old, refl); step = (refl, h.1); answer = h.0 })
+is_call sees old (ask.sets id) text new (r, h, e, same) = inl (record { event = Ask (SetsOf id r); its = (r, refl); step = (h, same); answer = e })
+is_call sees old ask.rebalance text new (r, h, e) = inl (record { event = Rebalance r; its = (r, refl); step = h; answer = e })
+is_call sees old ask.begin text new (r, h, e) = inl (record { event = Begin r; its = (r, refl); step = h; answer = e })
+is_call sees old ask.step text new (r, h, e) = inl (record { event = StepOn r; its = (r, refl); step = h; answer = e })
+is_call sees old ask.phase text new h = inl (record { event = Ask (PhaseIs old.phase); its = (old.phase, refl); step = (refl, h.1); answer = h.0 })
+is_call sees old ask.certificate text new (r, h, e, same) = inl (record { event = Ask (ShowCertificate r); its = (r, refl); step = (h, same); answer = e })
+is_call sees old (ask.fork pid) text new (r, h, rest, e) = inl (record { event = Fork pid r; its = (r, refl); step = (h, rest); answer = e })
+is_call sees old (ask.exit pid) text new (r, h, rest, e) = inl (record { event = Exit pid r; its = (r, refl); step = (h, rest); answer = e })
+is_call sees old (ask.offline cpu) text new (r, h, rest, e) = inl (record { event = Offline cpu r; its = (r, refl); step = (h, rest); answer = e })
+is_call sees old (ask.online cpu) text new (r, h, rest, e) = inl (record { event = Online cpu r; its = (r, refl); step = (h, rest); answer = e })
 
-pub commands_are_calls : CommandsAreCalls
-commands_are_calls old new command text h = is_call old.told old.node command text new.node h.0
+pub commands_are_calls : (sees : Told → Sees) → CommandsAreCalls sees
+commands_are_calls sees old new command text h = is_call (sees old.told) old.node command text new.node h.0
 
 -- at most one, which leads from the one node to the other
 abbrev AreOne : (List Event → Type 0) → NodeState → NodeState → Type 0
 AreOne AreMade old new = (events : List Event) × AreMade events × (length events ≤ 1) × Run old events new
 
-by_command : (told : Told) (old : NodeState) (command : Asked) (text : List ℕ) (new : NodeState) → AnswersBy (IsFound told) old command text new
-    → AreOne (λ events. CommandMakes told old command events text new) old new
-by_command told old command text new h =
-    elim (is_call told old command text new h) [
+by_command : (sees : Sees) (old : NodeState) (command : Asked) (text : List ℕ) (new : NodeState) → AnswersBy sees old command text new
+    → AreOne (λ events. CommandMakes sees old command events text new) old new
+by_command sees old command text new h =
+    elim (is_call sees old command text new h) [
       | inl c ↦ (c.event ∷ [], inl (c, refl), omega arith, (new, c.step, refl))
       | inr none ↦ ([], inr (none, refl), omega arith, none.1)
     ]
 
-by_request : (old new : RuntimeState) (request : Wanted) (text : List ℕ) → AnswersRequest Answered old request text new
-    → AreOne (λ events. RequestMakes old.told old.node request events text new.node) old.node new.node × (new.told ≡ old.told)
-by_request old new nothing text h =
+by_request : (sees : Told → Sees) (old new : RuntimeState) (request : Wanted) (text : List ℕ) → AnswersRequest (AnsweredWhere sees) old request text new
+    → AreOne (λ events. RequestMakes (sees old.told) old.node request events text new.node) old.node new.node × (new.told ≡ old.told)
+by_request sees old new nothing text h =
     let same = ap (λ (s : RuntimeState). s.node) h.1 in
     (([], (refl, h.0, same), omega arith, same), ap (λ (s : RuntimeState). s.told) h.1)
-by_request old new bad text h =
+by_request sees old new bad text h =
     let same = ap (λ (s : RuntimeState). s.node) h.1 in
     (([], (refl, h.0, same), omega arith, same), ap (λ (s : RuntimeState). s.told) h.1)
-by_request old new (asks command) text h = (by_command old.told old.node command text new.node h.0, ap (λ (s : RuntimeState). s.told) h.1)
+by_request sees old new (asks command) text h = (by_command (sees old.told) old.node command text new.node h.0, ap (λ (s : RuntimeState). s.told) h.1)
 
-by_line : (old new : RuntimeState) (line : Option (List ℕ)) (text : List ℕ) → AnswersLine Answered old line text new
-    → AreOne (λ events. LineMakes old.told old.node line events text new.node) old.node new.node × (new.told ≡ old.told)
-by_line old new None text h =
+by_line : (sees : Told → Sees) (old new : RuntimeState) (line : Option (List ℕ)) (text : List ℕ) → AnswersLine (AnsweredWhere sees) old line text new
+    → AreOne (λ events. LineMakes (sees old.told) old.node line events text new.node) old.node new.node × (new.told ≡ old.told)
+by_line sees old new None text h =
     let same = ap (λ (s : RuntimeState). s.node) h.1 in
     (([], (refl, h.0, same), omega arith, same), ap (λ (s : RuntimeState). s.told) h.1)
-by_line old new (Some line) text h = by_request old new (request_of (words_of line)) text h
+by_line sees old new (Some line) text h = by_request sees old new (request_of (words_of line)) text h
 
-pub lines_are_calls : LinesAreCalls
-lines_are_calls old new [] text h =
+pub lines_are_calls : (sees : Told → Sees) → LinesAreCalls sees
+lines_are_calls sees old new [] text h =
     let same = ap (λ (s : RuntimeState). s.node) h.1 in
     record { events = []; made = (refl, h.0, same); few = omega arith; run = same; told = ap (λ (s : RuntimeState). s.told) h.1 }
-lines_are_calls old new (line ∷ lines) text (mid, first, more, answered, run, e) =
-    let here = by_line old mid (kept line) first answered in
-    let later = lines_are_calls mid new lines more run in
+lines_are_calls sees old new (line ∷ lines) text (mid, first, more, answered, run, e) =
+    let here = by_line sees old mid (line_kept line) first answered in
+    let later = lines_are_calls sees mid new lines more run in
     let few : length here.0.0 ≤ 1 = here.0.2 in
     let fewer : length later.events ≤ length lines = later.few in
-    let made = subst (λ t. LinesMake t mid.node lines later.events more new.node) here.1 later.made in
+    let made = subst (λ t. LinesMake (sees t) mid.node lines later.events more new.node) here.1 later.made in
     record {
       events = here.0.0 ++ later.events;
       made = (mid.node, here.0.0, later.events, first, more, here.0.1, made, refl, e);
@@ -291,7 +295,7 @@ lines_are_calls old new (line ∷ lines) text (mid, first, more, answered, run, 
 
 pub rebalances_are_told : RunsRebalance → RebalancesAreTold
 rebalances_are_told leaves first old new lines text answer node run ((r, h, e), same) =
-    let before = lines_are_calls first old lines text run in
+    let before = lines_are_calls IsFound first old lines text run in
     (r, leaves first.node before.events old.node r new.node node before.run h, e)
 
 -- no other text begins so
@@ -338,18 +342,19 @@ shortages_are_told leaves first old new lines text more node run answered =
     short_told old.node new.node more told.0 told.1 told.2
 
 -- lines that were answered, cut before one of them and behind it
-pub runs_cut : (old last : RuntimeState) (before after : List (List ℕ)) (line text : List ℕ) → Runs Answered old (before ++ line ∷ after) text last
+pub runs_cut : (sees : Told → Sees) (old last : RuntimeState) (before after : List (List ℕ)) (line text : List ℕ)
+    → Runs (AnsweredWhere sees) old (before ++ line ∷ after) text last
     → (mid : RuntimeState) × (new : RuntimeState) × (earlier : List ℕ) × (answer : List ℕ) × (later : List ℕ)
-    × Runs Answered old before earlier mid × AnswersLine Answered mid (kept line) answer new × Runs Answered new after later last
+    × Runs (AnsweredWhere sees) old before earlier mid × AnswersLine (AnsweredWhere sees) mid (line_kept line) answer new × Runs (AnsweredWhere sees) new after later last
     × (text ≡ earlier ++ (answer ++ later))
-runs_cut old last [] after line text (new, answer, later, answered, run, e) = (old, new, [], answer, later, (refl, refl), answered, run, e)
-runs_cut old last (other ∷ before) after line text (next, first, more, answered, run, e) =
-    let c = runs_cut next last before after line more run in
+runs_cut sees old last [] after line text (new, answer, later, answered, run, e) = (old, new, [], answer, later, (refl, refl), answered, run, e)
+runs_cut sees old last (other ∷ before) after line text (next, first, more, answered, run, e) =
+    let c = runs_cut sees next last before after line more run in
     (c.0, c.1, first ++ c.2, c.3, c.4, (next, first, c.2, answered, c.5, refl), c.6, c.7, e ∙ ap (λ t. first ++ t) c.8 ∙ sym (append_assoc first c.2 (c.3 ++ c.4)))
 
 pub scripts_rebalance : RunsRebalance → ScriptsRebalance
 scripts_rebalance leaves first last before after line text node whole asked run =
-    let c = runs_cut first last before after line text run in
+    let c = runs_cut IsFound first last before after line text run in
     let answered : Answered c.0 ask.rebalance c.3 c.1 =
     subst (λ wanted. AnswersRequest Answered c.0 wanted c.3 c.1) asked (subst (λ read. AnswersLine Answered c.0 read c.3 c.1) whole c.6) in
     let told = rebalances_are_told leaves first c.0 c.1 before c.2 c.3 node c.5 answered in

@@ -1,7 +1,7 @@
 //! The texts that answer commands.
 ghost use Rattle.std.specs.Prelude.{◌++◌, codes};
 ghost use Rattle.byte_output.specs.Output.{Writes};
-ghost use Rattle.node.specs.Listed.{listed};
+ghost use Rattle.node.specs.Listed.{listing};
 ghost use Rattle.runtime.specs.AnswerTexts.{both_text, done_line, listing_text, phase_line, pid_line, set_text};
 ghost use Rattle.runtime.specs.AnswerTexts.{sets_line};
 ghost use Rattle.runtime.specs.Answered.{state_line};
@@ -92,7 +92,7 @@ fn put_entry<'a, W: Write>(id: &'a str, status: &'a str, w: &mut W) -> io::Resul
 
 /// Answers with the id and the status of each container.
 pub fn put_listing<K: Kernel + Drop, W: Write>(node: &Node<K>, w: &mut W) -> io::Result<()>
-    ensures { Writes (W.contents w.old) (W.contents w.new) result (listing_text (listed node.now)) }
+    ensures { Writes (W.contents w.old) (W.contents w.new) result (listing_text (listing node.now)) }
 {
     for (id, status) in node.list() {
         put_entry(id, status.word(), w)?;

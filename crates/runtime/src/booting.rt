@@ -1,11 +1,11 @@
 //! A node and its kernel, as a machine boots.
-ghost use Rattle.std.specs.Prelude.{◌≡◌, ◌⊎◌, [], IfErr, IfOk, string_bytes};
-ghost use Rattle.faults.specs.declared.OrMemory.TheVariants.{Memory};
+ghost use Rattle.std.specs.Prelude.{◌≡◌, [], IfErr, IfOk, string_bytes};
+ghost use Rattle.cgroup_tree.specs.Site.{opening};
 ghost use Rattle.runtime.specs.Boots.{Boots, IsKernelOf};
-ghost use Rattle.runtime.specs.MirroredNodes.{IsMirroredNode, IsNotBooted, site_of};
+ghost use Rattle.runtime.specs.MirroredNodes.{BootsNot, IsMirroredNode, site_of};
 
 use crate::mirrored::is_mirrored;
-use cgroup_tree::{GroupFiles, MirroredKernel, OpenTree, Sited};
+use cgroup_tree::{GroupFiles, MirroredKernel, OpenTree, Room, Sited};
 use faults::OrMemory;
 use kernel_model::{KernelFault, ModelKernel};
 use machine::Machine;
@@ -52,31 +52,50 @@ pub fn boot(alloc: Global, machine: Machine) -> Result<Node<ModelKernel>, AllocE
     }
 }
 
+/// Why there is no node in a tree, with the files of that tree.
+#[derive(Drop)]
+pub struct NotBooted<F> {
+    /// An allocation failure, or `Failed` where the folder of the node's group can't be made.
+    pub error: OrMemory<KernelFault>,
+    /// The files, in which there may be the node's folder.
+    pub files: F,
+}
+
 /// A node with no container, over a modelled kernel that has the machine's CPUs and nodes. Its writes are made in this
 /// tree too, of which nothing was asked yet.
 ///
 /// # Errors
-/// An allocation failure, or `Failed` where the folder of the node's group can't be made.
+/// An allocation failure, or `Failed` where the folder of the node's group can't be made. The files are handed back.
 pub fn boot_mirrored<F: GroupFiles + Drop, S: Sited>(
     alloc: Global,
     machine: Machine,
     tree: OpenTree<F>,
-) -> Result<Node<MirroredKernel<F, S>>, OrMemory<KernelFault>>
+) -> Result<Node<MirroredKernel<F, S>>, NotBooted<F>>
     requires site { S.site ≡ site_of machine (string_bytes tree.root) tree.memory tree.adopt }
-    requires unasked { F.asked tree.files tree.adopt [] }
+    requires unasked { F.asked tree.files (opening S.site) [] }
     // The same as `boot`, over a `MirroredKernel`.
     ensures boots { IfOk result (Boots machine) }
     // Its place is the one that it is told (`IsMirroredNode`, `site_of`). That is the root, the nodes that have memory,
     // how the files are opened, and this machine's first kernel.
     ensures mirrored { IfOk result (λ node. IsMirroredNode F.asked S.site node) }
-    // Else an allocation failed, or the kernel refused the node's group. Then all that was asked of the files is what
-    // that one call stands for (`IsNotBooted`). An allocation failure for a path is such a refusal, and nothing was
-    // asked then. So a body that always answers it meets the contract too; tests show that it makes a node
-    // (`tests/cgroup.sh`).
-    ensures err { IfErr result (λ error. (error ≡ Memory) ⊎ IsNotBooted F.asked S.site machine error) }
+    // Else an allocation failed before anything was asked of the files. Or the kernel refused the node's group, with
+    // this error, and all that was asked of the files is what that one call stands for (`IsNotBooted`). So a body that
+    // always answers an allocation failure meets the contract too; tests show that it makes a node (`tests/cgroup.sh`).
+    ensures err { IfErr result (λ r. BootsNot F.asked S.site machine r.error (F.asked r.files (opening S.site))) }
 {
-    let inner = kernel_of(alloc, &machine)?;
-    let kernel = MirroredKernel::new(alloc, inner, tree.root, tree.memory, tree.files);
+    let Ok(inner) = kernel_of(alloc, &machine) else {
+        return Err(NotBooted {
+            error: OrMemory::Memory,
+            files: tree.files,
+        });
+    };
+    let Ok(room) = Room::below(alloc, tree.root.as_str()) else {
+        return Err(NotBooted {
+            error: OrMemory::Memory,
+            files: tree.files,
+        });
+    };
+    let kernel = MirroredKernel::new(inner, tree.root, tree.memory, tree.files, room);
     match Node::new(alloc, kernel, machine) {
         Ok(node) => {
             is_mirrored(&node);
@@ -84,7 +103,10 @@ pub fn boot_mirrored<F: GroupFiles + Drop, S: Sited>(
         }
         Err(not_opened) => {
             not_opened.kernel.is_mirrored();
-            Err(not_opened.error)
+            Err(NotBooted {
+                error: not_opened.error,
+                files: not_opened.kernel.into_files(),
+            })
         }
     }
 }

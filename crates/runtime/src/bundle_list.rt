@@ -1,3 +1,4 @@
+//! Bundles that are told beforehand.
 ghost use Rattle.std.specs.Prelude.{◌≡◌, ℕ, List, Some, map};
 
 use crate::bundles::Bundles;

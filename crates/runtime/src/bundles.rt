@@ -1,3 +1,4 @@
+//! Where bundles come from.
 ghost use Rattle.std.specs.Prelude.{◌≡◌, ℕ, List, None, Option, IfOk, option_map, ⊤};
 ghost use Rattle.runtime.specs.RuntimeState.{Told};
 ghost use Rattle.runtime.specs.Found.{IsFound};

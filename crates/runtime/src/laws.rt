@@ -8,6 +8,7 @@ ghost use Rattle.node.specs.Questions.{ListAll, PhaseIs, SetsOf};
 ghost use Rattle.runtime.specs.Boots.{BootsNodes};
 ghost use Rattle.runtime.specs.CertificatesTold.{CertificatesAreTold};
 ghost use Rattle.runtime.specs.ConfigsServed.{ScriptsServeConfigs};
+ghost use Rattle.runtime.specs.Found.{IsFound};
 ghost use Rattle.runtime.specs.LooksTold.{LooksAreTold};
 ghost use Rattle.runtime.specs.OutcomeTexts.{container_lines, first_line};
 ghost use Rattle.runtime.specs.RefusalLine.{refusal_line};
@@ -29,8 +30,8 @@ use node::{NodeFault, Outcome, Phase, Status};
 /// So the answered lines of a script are a list of calls and events of the node, at most one a line. What they print is
 /// the texts of these, with the refusals of the lines that make none.
 pub fn lines_are_calls()
-    ensures commands { CommandsAreCalls }
-    ensures lines { LinesAreCalls }
+    ensures commands { CommandsAreCalls IsFound }
+    ensures lines { LinesAreCalls IsFound }
 {}
 
 /// The headline, with `told` and `broken`, for the text that answers a `rebalance`, whatever lines were answered before
@@ -60,15 +61,16 @@ pub fn looks_are_told<B: Bundles>()
     ensures { LooksAreTold B.finds }
 {}
 
-/// The headline and the configs in one statement, by a script's lines and the bundles' bytes. It speaks of each line
-/// that asks for a `rebalance`, from a node of no container on.
+/// The headline and the configs in one statement, by a script's lines and the bundles' bytes, of any bundles: those
+/// that are told, and those whose config is what a look at them may find, as the bytes of a file in a folder. It
+/// speaks of each line that asks for a `rebalance`, from a node of no container on.
 ///
 /// After a plan each live container has in effect as many CPUs as its config asks for, or the pool. Those that it asks
 /// for are online, and the config allows them. An earlier line asked for the container with its bundle, or for its
 /// config to be read again. The config is what is found of that bundle, and of the calls that the lines made none read
 /// one for the container later (`last`).
-pub fn scripts_serve_configs()
-    ensures { ScriptsServeConfigs }
+pub fn scripts_serve_configs<B: Bundles>()
+    ensures { ScriptsServeConfigs B.finds }
 {
     node::laws::each_rebalance();
     node::laws::what_configs_get();

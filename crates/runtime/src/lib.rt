@@ -32,9 +32,9 @@ mod refused_config;
 mod runner;
 mod updating;
 
-pub use booting::{FIRST_PID, boot, boot_mirrored};
+pub use booting::{FIRST_PID, NotBooted, boot, boot_mirrored};
 pub use bundle_list::BundleList;
 pub use bundles::Bundles;
-pub use mirrored::{is_mirrored, run_mirrored};
+pub use mirrored::{files_of, is_mirrored, run_mirrored};
 pub use refusal::Refusal;
 pub use runner::Runner;

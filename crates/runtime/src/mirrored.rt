@@ -1,4 +1,5 @@
 //! Nodes whose kernel's writes are made in a cgroup tree.
+ghost use Rattle.cgroup_tree.specs.Site.{opening};
 ghost use Rattle.runtime.specs.MirroredNodes.{IsMirroredNode};
 ghost use Rattle.runtime.specs.Answered.{AnsweredBy};
 ghost use Rattle.script.specs.Ends.{EndsBy};
@@ -44,4 +45,20 @@ pub fn run_mirrored<F: GroupFiles + Drop, S: Sited, B: Bundles + Drop, R: Read, 
     let end = run_script_within(runner, script, w, most_reads);
     is_mirrored(runner.node());
     end
+}
+
+/// The files that a runtime's kernel writes, once its scripts have ended.
+pub fn files_of<F: GroupFiles + Drop, S: Sited, B: Bundles + Drop>(
+    runner: Runner<MirroredKernel<F, S>, B>,
+) -> F
+    // All that they were asked for is what the calls of the node's kernel stand for, in their order and place.
+    ensures { (its : IsMirroredNode F.asked S.site runner.node)
+        × F.asked result (opening S.site) its.mirrored.calls }
+{
+    let node = runner.into_node();
+    node.holds();
+    let kernel = node.into_kernel();
+    kernel.is_mirrored();
+    kernel.files_stand();
+    kernel.into_files()
 }

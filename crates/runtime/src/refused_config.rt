@@ -1,3 +1,4 @@
+//! What is said of a config that a call refuses.
 ghost use Rattle.std.specs.Prelude.{◌≡◌};
 ghost use Rattle.runtime.specs.AnswerTexts.{of_either};
 

@@ -1,3 +1,4 @@
+//! A node and its bundles, over which a script is run.
 ghost use Rattle.std.specs.Prelude.{◌≡◌};
 ghost use Rattle.script.specs.Commands.{asked};
 ghost use Rattle.script.specs.Ends.{Replies};
@@ -48,6 +49,13 @@ impl<K: Kernel + Drop, B: Bundles + Drop> Runner<K, B> {
         ensures { result.now ≡ self.now.node }
     {
         &self.node
+    }
+
+    /// The node, handed back once the runtime is done with.
+    pub fn into_node(self) -> Node<K>
+        ensures { result ≡ self.node }
+    {
+        self.node
     }
 }
 

@@ -9,7 +9,7 @@ use Rattle.std.specs.Ordering.{nat_cmp}
 use Rattle.std.specs.FinSet as set
 use Rattle.std.specs.List.{AllByRecursion}
 use Rattle.cpu_set.specs.Ids.{Ids, is_empty}
-use Rattle.cpu_set.specs.Pointwise.{contains-empty, contains-union, contains-intersection, is_subset-contains, contains-is_subset}
+use Rattle.cpu_set.specs.PointwiseLaws.{contains-empty, contains-union, contains-intersection, is_subset-contains, contains-is_subset}
 use Rattle.cpuset_tree.specs.declared.Group.{Group}
 use Rattle.cpuset_tree.specs.TreeState.{TreeState, GroupEntry}
 use Rattle.cpuset_tree.specs.Groups.{same_group, entry_among, is_root, is_root_entry, root_among, root_of}

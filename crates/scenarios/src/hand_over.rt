@@ -4,7 +4,8 @@ use apply_plan::{Entry, Handover, Progress};
 use cpu_list::read;
 use cpu_set::{CPU_LIMIT, IdSet};
 use faults::OrMemory;
-use kernel_model::{FusedKernel, Group, Kernel, KernelFault, ModelKernel};
+use kernel_doubles::FusedKernel;
+use kernel_model::{Group, Kernel, KernelFault, ModelKernel};
 use std::alloc::{AllocError, Global};
 use std::test::Fail;
 

@@ -8,14 +8,14 @@ use Rattle.std.specs.Io.KnownBytes.{Appends, Consumes, IsAtEnd, Keeps}
 use Rattle.std.specs.List.{All}
 use Rattle.script.specs.Commands.{Asked}
 use Rattle.script.specs.Ends.{Ends, EndsUnread, EndsUnwritten, IsGivenBy, SendsPart}
-use Rattle.script.specs.Lines.{is_feed, kept, lines_of, with_piece}
+use Rattle.script.specs.Lines.{is_feed, line_kept, lines_of, with_piece}
 use Rattle.script.specs.Runs.{AnswersLine, Runs}
 use Rattle.script.specs.Underway.{Extends, Feeds, StopsIn, Underway}
 use Rattle.script.specs.declared.running.TheConstants.{PIECE}
 use Rattle.script.proofs.Feeds.{HasFeed, HasNoFeed}
 
 -- a line with a piece behind it
-pub with_piece-kept : (line piece : List ℕ) → with_piece (kept line) piece ≡ kept (line ++ piece)
+pub with_piece-kept : (line piece : List ℕ) → with_piece (line_kept line) piece ≡ line_kept (line ++ piece)
 with_piece-kept line piece = grind (arith, nat_tests, length-append line piece)
 
 -- what was given before, and then nothing
@@ -55,10 +55,10 @@ Keeps-self (Some xs) = refl
 
 module _ {S : Type 0} (Answers : S → Asked → List ℕ → S → Type 0) where
   -- one line more
-  Runs-more : (old mid new : S) (lines : List (List ℕ)) (line text more : List ℕ) → Runs Answers old lines text mid → AnswersLine Answers mid (kept line) more new
+  Runs-more : (old mid new : S) (lines : List (List ℕ)) (line text more : List ℕ) → Runs Answers old lines text mid → AnswersLine Answers mid (line_kept line) more new
       → Runs Answers old (lines ++ line ∷ []) (text ++ more) new
   Runs-more old mid new [] line text more run last =
-      (new, more, [], (let P : S → Type 0 = λ s. AnswersLine Answers s (kept line) more new in subst P run.1 last), (refl, refl), ap (λ t. t ++ more) run.0 ∙ sym (append-nil more))
+      (new, more, [], (let P : S → Type 0 = λ s. AnswersLine Answers s (line_kept line) more new in subst P run.1 last), (refl, refl), ap (λ t. t ++ more) run.0 ∙ sym (append-nil more))
   Runs-more old mid new (l ∷ lines) line text more (next, first, others, answered, run, e) last =
       (next, first, others ++ more, answered, Runs-more next mid new lines line others more run last, ap (λ t. t ++ more) e ∙ append_assoc first others more)
 

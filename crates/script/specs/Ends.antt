@@ -2,7 +2,7 @@
 use Rattle.std.specs.Prelude.{◌≡◌, ℕ, ◌*◌, ◌<◌, ◌≤◌, List, [], ◌∷◌, ◌++◌, length, Option, Result, Ok, Err}
 use Rattle.std.specs.Io.KnownBytes.{Appends, Consumes, IsAtEnd}
 use Rattle.script.specs.Commands.{Asked}
-use Rattle.script.specs.Lines.{kept, lines_of}
+use Rattle.script.specs.Lines.{line_kept, lines_of}
 use Rattle.script.specs.Runs.{AnswersLine, Runs}
 use Rattle.script.specs.declared.running.TheConstants.{PIECE}
 use Rattle.script.specs.declared.fault.ScriptFault.{ScriptFault}
@@ -79,7 +79,7 @@ pub record EndsUnwritten {S : Type 0} (most : ℕ) (Answers : S → Asked → Li
   pub cut : lines_of input ≡ before ++ line ∷ others
   pub whole : others ≡ [] → IsAtEnd read'
   pub run : Runs Answers old before text mid
-  pub answered : AnswersLine Answers mid (kept line) answer new
+  pub answered : AnswersLine Answers mid (line_kept line) answer new
   pub written : SendsLast out out' text answer
 
 -- how a script ends, by n reads at most. It was run whole, a read failed before the nth, n reads all gave bytes, or a write

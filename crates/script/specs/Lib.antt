@@ -5,4 +5,4 @@ pub mod Requests
 pub mod Runs
 pub mod TextLaws
 pub mod Underway
-pub mod Written
+pub mod WrittenLemmas

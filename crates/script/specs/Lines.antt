@@ -24,10 +24,10 @@ abbrev pub words_of : List ℕ → List (List ℕ)
 words_of line = filter is_some_word (slice_split is_blank line)
 
 -- the line, unless it has more than 8,192 bytes
-abbrev pub kept : List ℕ → Option (List ℕ)
-kept line = if nat_le (length line) MOST_LINE_BYTES then Some line else None
+abbrev pub line_kept : List ℕ → Option (List ℕ)
+line_kept line = if nat_le (length line) MOST_LINE_BYTES then Some line else None
 
 -- the line with a piece more behind it; one that is too long stays so
 abbrev pub with_piece : Option (List ℕ) → List ℕ → Option (List ℕ)
 with_piece None piece = None
-with_piece (Some line) piece = kept (line ++ piece)
+with_piece (Some line) piece = line_kept (line ++ piece)

@@ -1,7 +1,7 @@
 -- What a script prints: the answers to its lines, one after another.
 use Rattle.std.specs.Prelude.{◌≡◌, ℕ, List, [], ◌∷◌, ◌++◌, codes, Option, Some, None}
 use Rattle.script.specs.Commands.{Asked}
-use Rattle.script.specs.Lines.{kept, words_of}
+use Rattle.script.specs.Lines.{line_kept, words_of}
 use Rattle.script.specs.Requests.{Wanted, nothing, bad, asks, request_of}
 
 -- the text answers what is wanted, of a target that answers commands like this and goes from old to new
@@ -19,4 +19,4 @@ AnswersLine Answers old (Some line) text new = AnswersRequest Answers old (reque
 abbrev pub Runs : {S : Type 0} → (S → Asked → List ℕ → S → Type 0) → S → List (List ℕ) → List ℕ → S → Type 0
 Runs Answers old [] text new = (text ≡ []) × (new ≡ old)
 Runs Answers old (line ∷ lines) text new = (mid : _) × (first : List ℕ) × (more : List ℕ)
-    × AnswersLine Answers old (kept line) first mid × Runs Answers mid lines more new × (text ≡ first ++ more)
+    × AnswersLine Answers old (line_kept line) first mid × Runs Answers mid lines more new × (text ≡ first ++ more)

@@ -4,7 +4,7 @@ use Rattle.std.specs.Io.KnownBytes.{Appends}
 use Rattle.std.specs.List.{All}
 use Rattle.script.specs.Commands.{Asked}
 use Rattle.script.specs.Ends.{SendsLast}
-use Rattle.script.specs.Lines.{is_feed, kept, lines_of}
+use Rattle.script.specs.Lines.{is_feed, line_kept, lines_of}
 use Rattle.script.specs.Runs.{AnswersLine, Runs}
 
 -- the lines that ended in this input were answered by this text, and this is held of the line that has not ended
@@ -13,7 +13,7 @@ pub record Underway {S : Type 0} (Answers : S → Asked → List ℕ → S → T
   pub rest : List ℕ
   pub cut : (more : List ℕ) → lines_of (input ++ more) ≡ lines ++ lines_of (rest ++ more)
   pub partial : All (λ byte. is_feed byte ≡ false) rest
-  pub held_is : held ≡ kept rest
+  pub held_is : held ≡ line_kept rest
   pub run : Runs Answers old lines text new
 
 -- whatever was read before, with these bytes more it has written this text more

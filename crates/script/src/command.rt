@@ -1,3 +1,4 @@
+//! The commands of a script.
 /// A line's command.
 #[derive(Clone, Copy, Debug, PartialEq, Eq)]
 pub enum Command<'a> {

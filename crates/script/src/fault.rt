@@ -1,3 +1,4 @@
+//! Why a script is not run to its end.
 use std::io::ErrorKind;
 use thiserror::Error;
 

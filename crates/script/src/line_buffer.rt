@@ -1,3 +1,4 @@
+//! The line that is being read.
 ghost use Rattle.std.specs.Prelude.{◌≡◌, ◌≤◌, ℕ, List, [], Option, Some, None, take, if◌then◌else◌, MatchOption};
 ghost use Rattle.script.specs.Lines.{with_piece};
 ghost use Rattle.script.specs.declared.line_buffer.TheConstants.{MOST_LINE_BYTES};

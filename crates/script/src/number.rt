@@ -1,3 +1,4 @@
+//! Numbers in a command.
 ghost use Rattle.std.specs.Prelude.{◌≡◌};
 ghost use Rattle.script.specs.Requests.{number_of};
 

@@ -1,3 +1,4 @@
+//! What answers a script's commands.
 ghost use Rattle.std.specs.Prelude.{ℕ, List};
 ghost use Rattle.script.specs.Commands.{Asked, asked};
 ghost use Rattle.script.specs.Ends.{Replies};

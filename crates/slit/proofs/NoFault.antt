@@ -2,7 +2,7 @@ use Rattle.std.proofs.Common.{◌≡◌, ℕ, List, None, arith}
 use Rattle.std.proofs.lemmas.Grind.{common_steps}
 use Rattle.faults.specs.FirstLaws.{first_below-none}
 use Rattle.slit.specs.AreDistances.{AreDistances, IsEntry}
-use Rattle.slit.specs.EntriesFault.{entry_fault, row_fault, entries_fault}
+use Rattle.slit.specs.EntriesFault.{entry_fault, table_row_fault, entries_fault}
 use Rattle.slit.specs.Header.{HasHeader}
 use Rattle.slit.specs.HeaderFault.{header_fault}
 use Rattle.slit.specs.Table.{Table}
@@ -18,6 +18,6 @@ entry_fault-none i j entry h = grind (arith, common_steps)
 
 -- distances that the standard allows have no fault
 pub entries_fault-none : (t : Table) → AreDistances t → entries_fault t ≡ None
-unfolding entries_fault row_fault
+unfolding entries_fault table_row_fault
 entries_fault-none t h =
     first_below-none _ _ (λ i in_i. first_below-none _ _ (λ j in_j. entry_fault-none i j _ (h.rows i in_i j in_j)))

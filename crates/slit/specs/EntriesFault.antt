@@ -12,9 +12,9 @@ entry_fault i j entry = first_of (
     ∷ [])
 
 -- the first fault in row i
-unfoldable pub row_fault : Table → ℕ → Option SlitFault
-row_fault t i = first_below t.localities (λ j. entry_fault i j (distance t i j))
+unfoldable pub table_row_fault : Table → ℕ → Option SlitFault
+table_row_fault t i = first_below t.localities (λ j. entry_fault i j (distance t i j))
 
 -- the first fault of the entries, by rows
 unfoldable pub entries_fault : Table → Option SlitFault
-entries_fault t = first_below t.localities (row_fault t)
+entries_fault t = first_below t.localities (table_row_fault t)

@@ -1,8 +1,9 @@
+//! The entries of a table: their faults, and the distance in a row and column.
 ghost use Rattle.std.specs.Prelude.{◌≡◌, ◌<◌, ◌≤◌, ◌*◌, ℕ, length, OnOk};
 ghost use Rattle.std.specs.Result.{result_err};
 ghost use Rattle.slit.specs.AreDistances.{IsEntry, IsRow};
 ghost use Rattle.slit.specs.Table.{distance, table};
-ghost use Rattle.slit.specs.EntriesFault.{entry_fault, row_fault, entries_fault};
+ghost use Rattle.slit.specs.EntriesFault.{entry_fault, table_row_fault, entries_fault};
 
 use crate::{LOCAL, MAX_LOCALITIES, SlitFault};
 
@@ -24,7 +25,7 @@ fn check_row(entries: &[u8], count: usize, row: usize) -> Result<(), SlitFault>
     requires few { count ≤ MAX_LOCALITIES }
     requires square { length entries.now ≡ count * count }
     requires row { row < count }
-    ensures fault { row_fault (table count entries.now) row ≡ result_err result }
+    ensures fault { table_row_fault (table count entries.now) row ≡ result_err result }
     ensures ok { OnOk result (IsRow (table count entries.now) row) }
 {
     for column in 0..count {

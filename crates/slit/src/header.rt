@@ -1,3 +1,4 @@
+//! The header of a table: its faults, the number of localities, and where the entries are.
 ghost use Rattle.std.specs.Prelude.{◌≡◌, ◌≤◌, ◌%◌, ◌*◌, length, IfOk, sum};
 ghost use Rattle.std.specs.Result.{result_err};
 ghost use Rattle.std.specs.Int.{from_le_bytes, w32, w64};

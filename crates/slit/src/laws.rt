@@ -17,7 +17,7 @@ pub fn the_limits()
 
 /// Worked rows of docs/formats.md, "Distance tables": the definitions, evaluated on a table of two localities, and on
 /// the same table with a byte changed.
-#[tactic(auto, unfolding(crate::specs::Describes::table_of, crate::specs::EntriesFault::entries_fault, crate::specs::EntriesFault::row_fault, crate::specs::Header::count_of, crate::specs::Header::size_of, crate::specs::HeaderFault::header_fault, faults::specs::First::first_below))]
+#[tactic(auto, unfolding(crate::specs::Describes::table_of, crate::specs::EntriesFault::entries_fault, crate::specs::EntriesFault::table_row_fault, crate::specs::Header::count_of, crate::specs::Header::size_of, crate::specs::HeaderFault::header_fault, faults::specs::First::first_below))]
 pub fn worked()
     ensures no_fault { slit_fault two_sockets ≡ None }
     ensures localities { (table_of two_sockets).localities ≡ 2 }

@@ -16,7 +16,7 @@ use Rattle.certificate.specs.declared.weights.Weights.{Weights}
 use Rattle.certificate_text.specs.ProblemText.{AreWritable}
 use Rattle.certificate_text.specs.Written.{CanWrite, IsHeld}
 use Rattle.solution.specs.Decides.{Decides, IsTotalHeld, answered}
-use Rattle.transport.specs.Solved.{IsRight, IsDecided, AreTwinsDealt, ArePricesOfClasses}
+use Rattle.transport.specs.Solved.{IsAnswerOf}
 use Rattle.transport.specs.declared.solver.Answer.{Answer}
 use Rattle.transport.specs.declared.solver.Answer.TheVariants as answer
 use Rattle.twins.specs.IsPriced.{class_prices}
@@ -52,35 +52,34 @@ prices_in (s ∷ classes) (p ∷ amounts) h = at (p == 0) (prices_in classes amo
 
 module _ (rows : List RowView) (weights : Weights) (means : LimitsMean) (writable : AreWritable rows) where
   -- what proves itself and has no price of no CPU can be written
-  pub can_write : (a : Answer) → IsRight rows a → ArePricesOfClasses rows a → CanWrite (answered rows weights a)
-  can_write (answer.Plan sets prices total turns) proved priced =
-      let within = (means rows sets prices).0 proved.limits in (
+  pub can_write : (a : Answer) → IsAnswerOf rows a → CanWrite (answered rows weights a)
+  can_write (answer.Plan sets prices total turns) is =
+      let within = (means rows sets prices).0 is.right.limits in (
         record { sets_len = within.same_sets; values_len = within.same_values; apart = writable.apart },
         writable.can,
-        (sets_some rows sets within.rows_are.each proved.plan.met).0,
-        λ i d lt. not_empty _ (priced.1 i d lt).1,
+        (sets_some rows sets within.rows_are.each is.right.plan.met).0,
+        λ i d lt. not_empty _ (is.priced.1 i d lt).1,
       )
-  can_write (answer.Short members turns) short priced = (
-    record { some = some_members rows members.items short.short; rising = short.rising; there = short.there; apart = writable.apart },
+  can_write (answer.Short members turns) is = (
+    record { some = some_members rows members.items is.right.short; rising = is.right.rising; there = is.right.there; apart = writable.apart },
     writable.can,
   )
 
   -- and its numbers and sets are such as their types hold
-  pub held : (a : Answer) → IsRight rows a → ArePricesOfClasses rows a → IsTotalHeld (answered rows weights a) → IsHeld (answered rows weights a)
-  held (answer.Plan sets prices total turns) proved priced fits =
-      let within = (means rows sets prices).0 proved.limits in
-      let its : All (λ (p : Price). InRange p.cpus) prices.of_cpu = rw priced.0.its (prices_in priced.0.classes priced.0.amounts priced.0.grouping.in_range) in (
+  pub held : (a : Answer) → IsAnswerOf rows a → IsTotalHeld (answered rows weights a) → IsHeld (answered rows weights a)
+  held (answer.Plan sets prices total turns) is fits =
+      let within = (means rows sets prices).0 is.right.limits in
+      let its : All (λ (p : Price). InRange p.cpus) prices.of_cpu = rw is.priced.0.its (prices_in is.priced.0.classes is.priced.0.amounts is.priced.0.grouping.in_range) in (
         writable.held,
-        (sets_some rows sets within.rows_are.each proved.plan.met).1,
+        (sets_some rows sets within.rows_are.each is.right.plan.met).1,
         λ i d lt. (let v = within.values i d lt in omega (arith, v)),
         λ i d lt. (let amount = within.amounts i d lt in record { amount = omega (arith, amount); cpus = its i d lt }),
         fits,
       )
-  held (answer.Short members turns) short priced fits = writable.held
+  held (answer.Short members turns) is fits = writable.held
 
 -- what the solver answers decides the problem
-pub decides : (rows : List RowView) (weights : Weights) (a : Answer) → IsRight rows a → IsDecided rows a → AreTwinsDealt rows a → ArePricesOfClasses rows a
-    → Decides rows weights (answered rows weights a)
-decides rows weights (answer.Plan sets prices total turns) right decided dealt priced =
-    (refl, refl, record { least = decided; proved = right; dealt = dealt; by_class = priced.0; some = priced.1 })
-decides rows weights (answer.Short members turns) right decided dealt priced = (refl, refl, record { shortage = right; none = decided })
+pub decides : (rows : List RowView) (weights : Weights) (a : Answer) → IsAnswerOf rows a → Decides rows weights (answered rows weights a)
+decides rows weights (answer.Plan sets prices total turns) is =
+    (refl, refl, record { least = is.decided; proved = is.right; dealt = is.dealt; by_class = is.priced.0; some = is.priced.1 })
+decides rows weights (answer.Short members turns) is = (refl, refl, record { shortage = is.right; none = is.decided })

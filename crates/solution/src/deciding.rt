@@ -3,7 +3,7 @@ ghost use Rattle.std.specs.Prelude.{◌≡◌, IsTrue, IfOk};
 ghost use Rattle.certificate.specs.Limits.{rows_fit};
 ghost use Rattle.certificate_text.specs.ProblemText.{AreWritable};
 ghost use Rattle.certificate_text.specs.Written.{CanWrite, IsHeld};
-ghost use Rattle.transport.specs.Solved.{IsRight, IsDecided, AreTwinsDealt, ArePricesOfClasses};
+ghost use Rattle.transport.specs.Solved.{IsAnswerOf};
 ghost use Rattle.solution.specs.Decides.{Decides, IsTotalHeld, answered};
 
 use certificate::{Certificate, Members, Problem, Weights};
@@ -37,10 +37,7 @@ pub fn decide(alloc: Global, problem: Problem, weights: Weights) -> Result<Certi
 /// The certificate of an answer.
 pub(crate) fn certificate_of(problem: Problem, weights: Weights, answer: Answer) -> Certificate
     requires writable { AreWritable problem }
-    requires right { IsRight problem answer }
-    requires decided { IsDecided problem answer }
-    requires dealt { AreTwinsDealt problem answer }
-    requires priced { ArePricesOfClasses problem answer }
+    requires answer { IsAnswerOf problem answer }
     ensures decided { Decides problem weights result }
     ensures can { CanWrite result }
     ensures held { IsHeld result }

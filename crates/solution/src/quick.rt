@@ -1,36 +1,34 @@
 //! What a problem comes to, by whichever of two ways is short.
 ghost use Rattle.std.specs.Prelude.{IsTrue, IfOk};
 ghost use Rattle.certificate.specs.Limits.{rows_fit};
-ghost use Rattle.transport.specs.Solved.{IsRight, IsDecided, AreTwinsDealt, ArePricesOfClasses};
+ghost use Rattle.transport.specs.Solved.{IsAnswerOf};
 
 use certificate::{Problem, Row};
 use network_simplex::propose;
 use std::alloc::{AllocError, Global};
 use transport::{Answer, TurnLimit, solve, solve_within};
 
-/// For each turn that the solver may take at first, so many more when all rows have their CPUs. So it goes on for half as
-/// long as network simplex takes, or about as long where there are many rows; and where turns rise with each row it stops
-/// early.
+/// For each turn that the solver may take at first, so many more when all rows have their CPUs. So it goes on for half
+/// as long as network simplex takes, or about as long where there are many rows; and where turns rise with each row it
+/// stops early.
 const MORE_BEHIND: u64 = 7;
 
 /// How many rows there were where the limit was measured. With fewer rows it is no lower for that.
 const MEASURED_ROWS: u64 = 256;
 
-/// What the limit is divided by, to be what was measured there, with five rows and CPUs together for each row.
+/// What the limit is divided by: 5 × 16. Where it was measured, rows and CPUs together were 5 times the rows. And the
+/// turns that are few were rows × rows × CPUs asked for / offers, 16 times, which is [`MEASURED_ROWS`] / 16.
 const SCALE: u64 = 80;
 
-/// What the solver answers, where that takes few turns. Else a plan that network simplex finds; and where it finds none,
-/// what the solver answers in as many turns as it takes. Of several plans of the least cost it may be another one than
-/// [`solve`] has.
+/// What the solver answers, where that takes few turns. Else a plan that network simplex finds; and where it finds
+/// none, what the solver answers in as many turns as it takes. Of several plans of the least cost it may be another one
+/// than [`solve`] has.
 ///
 /// # Errors
 /// An allocation failure; no problem is refused.
 pub(crate) fn quick_answer(alloc: Global, problem: &Problem) -> Result<Answer, AllocError>
     requires { IsTrue (rows_fit problem.now) }
-    ensures right { IfOk result (IsRight problem.now) }
-    ensures decided { IfOk result (IsDecided problem.now) }
-    ensures dealt { IfOk result (AreTwinsDealt problem.now) }
-    ensures priced { IfOk result (ArePricesOfClasses problem.now) }
+    ensures { IfOk result (IsAnswerOf problem.now) }
 {
     let limit = limit_of(problem.rows.as_slice());
     if let Some(answer) = solve_within(alloc, problem, limit)? {
@@ -50,7 +48,8 @@ pub(crate) fn quick_answer(alloc: Global, problem: &Problem) -> Result<Answer, A
 /// How many turns are few for these rows: such as take about as long as network simplex, or half as long.
 ///
 /// A turn is a row, which looks at its offers, or a class, which takes few steps. There are about as many classes for a
-/// row as it asks for CPUs. And the more rows there are, the fewer steps a turn takes, and the more network simplex does.
+/// row as it asks for CPUs. And the more rows there are, the fewer steps a turn takes, and the more network simplex
+/// does.
 fn limit_of(rows: &[Row]) -> TurnLimit {
     let mut asked = 0u64;
     let mut offers = 0u64;

@@ -9,7 +9,7 @@ use Rattle.std.proofs.lemmas.List.Elements.{All-append, All-nil, All-push}
 use Rattle.std.proofs.lemmas.List.Folds.{list_any-append}
 use Rattle.std.specs.Prelude.{All, nat_le, slice_range}
 use Rattle.tagged_sets.proofs.Sets.{IsBelow, are_of_set, below_if_of_set, set_again}
-use Rattle.tagged_sets.specs.RangeSets.{in_of_set}
+use Rattle.tagged_sets.specs.RangeSetLaws.{in_of_set}
 use Rattle.tagged_sets.specs.Tagged.{AreKept, AreWide, IsOfSet, IsWideOf, MayKeep, in_any, ranges_of_set, set_of_ranges, start_at, tagged, wide_set}
 use Rattle.tagged_sets.specs.declared.tagged_sets.Head.{Head}
 use Rattle.tagged_sets.specs.declared.tagged_sets.WideSet.{WideSet}

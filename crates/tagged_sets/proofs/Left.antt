@@ -1,5 +1,5 @@
 -- The ranges of a set that are left, while they are added one after another.
-use Rattle.cpu_set.specs.SetRanges.{range_found, ranges_next}
+use Rattle.cpu_set.specs.SetRangeLaws.{range_found, ranges_next}
 use Rattle.cpu_set.specs.Ids.{Ids, IsFirstFrom, NoneFrom}
 use Rattle.cpu_set.specs.Members.{IsComplement, IsCpu}
 use Rattle.cpu_set.specs.RangesFrom.{AreLeft, ranges_left}

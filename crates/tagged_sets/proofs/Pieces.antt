@@ -1,11 +1,11 @@
 -- The ranges of a set less the numbers of another, piece by piece.
 use Rattle.cpu_set.specs.Ids.{Ids, IsFirstFrom, NoneFrom}
 use Rattle.cpu_set.specs.Members.{InRange, IsComplement, IsCpu}
-use Rattle.cpu_set.specs.Pointwise.{contains-difference}
+use Rattle.cpu_set.specs.PointwiseLaws.{contains-difference}
 use Rattle.cpu_set.specs.RangeLaws.{AreRuns-weaker, above_first, first_in, members_ranges, none_below, ranges_among, ranges_from-is, ranges_none_among, ranges_skip}
 use Rattle.cpu_set.specs.Ranges.{AreRuns, in_ranges}
 use Rattle.cpu_set.specs.RangesFrom.{ranges_from}
-use Rattle.cpu_set.specs.SetRanges.{from_range}
+use Rattle.cpu_set.specs.SetRangeLaws.{from_range}
 use Rattle.cpu_set.specs.declared.TheConstants.{CPU_LIMIT}
 use Rattle.std.proofs.Common.{nat_le, Bool, List, MatchOption, None, Option, Some, [], ap, append_assoc, append-nil, arith, drop, drop-cons, false, get_or, length, min, nat_lt, not, refl, subst, suc, sym, take, take-append-drop, true, unwrap_or, zero, ℕ, ◌&&◌, ◌++◌, ◌+◌, ◌-◌, ◌<◌, ◌||◌, ◌∙◌, ◌∷◌, ◌≡◌, ◌≤◌, ⊎_elim}
 use Rattle.std.proofs.lemmas.Bool.{and_parts, cases_eq, cases_lt, or_cases, or_right}
@@ -15,7 +15,7 @@ use Rattle.std.proofs.lemmas.List.Folds.{list_any-append}
 use Rattle.std.specs.FinSet as set
 use Rattle.std.specs.Prelude.{All}
 use Rattle.tagged_sets.proofs.Sets.{in_range-ranges, runs_of_set}
-use Rattle.tagged_sets.specs.RangeSets.{in_of_set}
+use Rattle.tagged_sets.specs.RangeSetLaws.{in_of_set}
 use Rattle.tagged_sets.specs.CutOut.{IsCut, IsRun}
 use Rattle.tagged_sets.specs.Tagged.{IsOfSet, ranges_of_set, set_of_ranges}
 

@@ -1,7 +1,7 @@
 -- A set and its ranges tell the same.
 use Rattle.cpu_set.specs.Ids.{Ids}
 use Rattle.cpu_set.specs.Members.{InRange}
-use Rattle.cpu_set.specs.Pointwise.{same_members}
+use Rattle.cpu_set.specs.PointwiseLaws.{same_members}
 use Rattle.cpu_set.specs.RangeLaws.{AreRuns-ranges_among}
 use Rattle.cpu_set.specs.Ranges.{AreRuns, in_ranges}
 use Rattle.cpu_set.specs.declared.TheConstants.{CPU_LIMIT}
@@ -9,7 +9,7 @@ use Rattle.std.proofs.Common.{Bool, List, [], ap, arith, get_or, length, refl, s
 use Rattle.std.proofs.lemmas.Bool.{and_from, le-leb, or_left, or_right}
 use Rattle.std.proofs.lemmas.Bool.Decides.{nat_tests}
 use Rattle.std.specs.Prelude.{All, nat_lt}
-use Rattle.tagged_sets.specs.RangeSets.{among_all, contains-ranges, in_ranges-set}
+use Rattle.tagged_sets.specs.RangeSetLaws.{among_all, contains-ranges, in_ranges-set}
 use Rattle.tagged_sets.specs.Tagged.{IsOfSet, ranges_of_set, set_of_ranges}
 use Rattle.std.specs.FinSet as set
 

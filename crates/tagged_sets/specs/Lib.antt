@@ -1,3 +1,3 @@
 pub mod CutOut
-pub mod RangeSets
+pub mod RangeSetLaws
 pub mod Tagged

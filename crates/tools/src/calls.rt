@@ -1,12 +1,13 @@
 //! Calls of a kernel, a line each.
 ghost use Rattle.std.specs.Prelude.{IfOk};
 ghost use Rattle.cgroup_tree.specs.Site.{Begins};
-ghost use Rattle.tools.specs.Start.{beginning_of};
+ghost use Rattle.tools.specs.StartLemmas.{beginning_of};
 
 use anyhow::{Context, Result, bail};
 use cpu_set::{CPU_LIMIT, IdSet};
 use faults::OrMemory;
-use kernel_model::{Call, FusedKernel, Group, Kernel, LAST_PID, ModelKernel, Reply, make_calls};
+use kernel_doubles::{FusedKernel, make_calls};
+use kernel_model::{Call, Group, Kernel, LAST_PID, ModelKernel, Reply};
 use std::alloc::{AllocError, Global};
 
 /// `kernel FAIL`: a line `PRESENT RESERVED ONLINE NODES PID` of sets and the first pid, and calls over that kernel, of

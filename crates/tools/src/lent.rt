@@ -45,6 +45,14 @@ impl<K: Kernel> Kernel for Lent<'_, K> {
         self.kernel.find_group(parent, name)
     }
 
+    fn makable(&self, parent: Group, name: &str) -> Result<(), KernelFault> {
+        self.kernel.makable(parent, name)
+    }
+
+    fn has_pids(&self) -> bool {
+        self.kernel.has_pids()
+    }
+
     fn requested_cpus(&self, group: Group) -> Result<&IdSet, KernelFault> {
         self.kernel.requested_cpus(group)
     }

@@ -1,11 +1,11 @@
 //! A kernel whose writes are asked of files first, of which one call fails.
 ghost use Rattle.std.specs.Prelude.{◌≡◌, ⊤, false, string_bytes};
 ghost use Rattle.cgroup_tree.specs.Site.{Begins};
-ghost use Rattle.tools.specs.Start.{beginning_of};
+ghost use Rattle.tools.specs.StartLemmas.{beginning_of};
 
 use crate::calls;
 use anyhow::{Context, Result, bail};
-use cgroup_tree::{GroupFiles, MirroredKernel, Sited};
+use cgroup_tree::{GroupFiles, MirroredKernel, Room, Sited};
 use cpu_set::IdSet;
 use kernel_model::ModelKernel;
 use std::io;
@@ -54,6 +54,10 @@ impl<R: Print> GroupFiles for FusedFiles<'_, R> {
         self.ask("write", path, text)
     }
 
+    fn tell_lack(&self, name: &str) {
+        let _ = println!(self.rt; "lacked {name}");
+    }
+
     fn compare_line(&mut self, path: &str, line: &[u8]) {
         let line = str::from_utf8(line).unwrap_or("");
         let _ = println!(self.rt; "looked {path} {line:?}");
@@ -98,12 +102,7 @@ fn over<S: Sited, R: AllocGlobal + Print>(
           = beginning_of inner;
     } }
 {
-    let mut kernel = MirroredKernel::<FusedFiles<R>, S>::new(
-        rt.alloc(),
-        inner,
-        root,
-        memory,
-        files,
-    );
+    let room = Room::below(rt.alloc(), root.as_str())?;
+    let mut kernel = MirroredKernel::<FusedFiles<R>, S>::new(inner, root, memory, files, room);
     calls::one_by_one(rt, &mut kernel, lines.as_str())
 }

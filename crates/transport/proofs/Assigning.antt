@@ -1,5 +1,5 @@
 -- Searches for one row after another, and the rows one after another.
-use Rattle.std.proofs.Common.{◌≡◌, ℕ, zero, suc, ◌+◌, ◌*◌, ◌<◌, ◌≤◌, ◌^◌, true, List, [], ◌∷◌, length, map, get_or, refl, sym, ap, ◌∙◌, subst, inl, inr, arith}
+use Rattle.std.proofs.Common.{◌≡◌, ℕ, zero, suc, ◌+◌, ◌*◌, ◌<◌, ◌≤◌, ◌^◌, true, List, [], ◌∷◌, length, map, take, get_or, refl, sym, ap, ◌∙◌, subst, inl, inr, arith}
 use Rattle.std.proofs.Math.Nat.{mul-le-mul}
 use Rattle.std.proofs.Math.Numerals.{add-one}
 use Rattle.std.proofs.lemmas.Option.{slice_get_within}
@@ -152,6 +152,13 @@ pub asked_is : (rows : List RowView) → total (demand_of rows) (length rows) �
 asked_is [] = refl
 asked_is (r ∷ rows) = omega (arith, asked_is rows, sum_by-cons (λ (x : RowView). x.demand) r rows)
 
+-- what the first rows ask for
+asked_first : (rows : List RowView) (k : ℕ) → k ≤ length rows → total (demand_of rows) k ≡ asked (take k rows)
+asked_first [] zero le = refl
+asked_first [] (suc k) le = absurd (omega (arith, le))
+asked_first (r ∷ rows) zero le = refl
+asked_first (r ∷ rows) (suc k) le = omega (arith, asked_first rows k (omega (arith, le)), sum_by-cons (λ (x : RowView). x.demand) r (take k rows))
+
 -- what a row asks for
 no_row : RowView
 no_row = record { id = []; demand = 0; offers = [] }
@@ -183,6 +190,17 @@ pub limit_raised : (rows : List RowView) (row : ℕ) (r : RowView) (limit : Turn
 limit_raised rows row r limit most after lt low raised =
     rw add-one
     (raise_by limit.at_first limit.per_cpu (total (demand_of rows) row) (total (demand_of rows) (suc row)) (demand_of rows row) (get_or rows row r).demand most after
+    (total_last (demand_of rows) row) (sym (get_or-map (λ (x : RowView). x.demand) rows row r 0 lt)) low raised)
+
+raise_to : (first per x y d asks most after : ℕ) → y ≡ x + d → asks ≡ d → first + per * x ≤ most → most + per * asks ≤ after → first + per * y ≤ after
+raise_to first per x y d asks most after more same low raised = rw more (omega (arith, low, rw same at raised))
+
+-- and no less, where it is not past all numbers of turns
+pub limit_reached : (rows : List RowView) (row : ℕ) (r : RowView) (limit : TurnLimit) (most after : ℕ) → row < length rows
+    → limit.at_first + limit.per_cpu * total (demand_of rows) row ≤ most → most + limit.per_cpu * (get_or rows row r).demand ≤ after → limit.at_first + limit.per_cpu * total (demand_of rows) (row + 1) ≤ after
+limit_reached rows row r limit most after lt low raised =
+    rw add-one
+    (raise_to limit.at_first limit.per_cpu (total (demand_of rows) row) (total (demand_of rows) (suc row)) (demand_of rows row) (get_or rows row r).demand most after
     (total_last (demand_of rows) row) (sym (get_or-map (λ (x : RowView). x.demand) rows row r 0 lt)) low raised)
 
 -- the limit of the first rows is within that of all rows
@@ -224,14 +242,20 @@ asked_low rows fit = below (asked_is rows) (total_small (demand_of rows) (length
     below is small = omega (arith, is, small, fit.few)
 
 -- no rows take as many turns as a number of 64 bits can count
-pub never_late : (rows : List RowView) → AreRowsWithin rows → MayTakeMore rows (18446744073709551615) → ⊥
+pub never_late : (rows : List RowView) → AreRowsWithin rows → MayTakeMore rows (record { at_first = 18446744073709551615; per_cpu = 0 }) → ⊥
 never_late rows fit late =
     let few : length rows + length late.classes ≤ MAX_ROWS + CPU_LIMIT = omega (arith, fit.few, late.few) in
-    let low : asked rows * (length rows + length late.classes) ≤ most_turns = mul-le-mul (asked_low rows fit) few in
-    never (asked rows * (length rows + length late.classes)) low late.more
+    let up : asked (take (suc late.met) rows) ≤ asked rows =
+    rw (← asked_first rows (suc late.met) (omega (arith, late.there)), ← asked_is rows) (total_up (demand_of rows) (suc late.met) (length rows) (omega (arith, late.there))) in
+    let less : asked (take (suc late.met) rows) ≤ MAX_ROWS * MAX_DEMAND = below (asked (take (suc late.met) rows)) (asked rows) up (asked_low rows fit) in
+    let low : asked (take (suc late.met) rows) * (length rows + length late.classes) ≤ most_turns = mul-le-mul less few in
+    never (0 * asked (take late.met rows)) (asked (take (suc late.met) rows) * (length rows + length late.classes)) low late.more
   where
-    never : (x : ℕ) → x ≤ most_turns → 18446744073709551615 < x → ⊥
-    never x low more = omega (arith, low, more)
+    below : (x y : ℕ) → x ≤ y → y ≤ MAX_ROWS * MAX_DEMAND → x ≤ MAX_ROWS * MAX_DEMAND
+    below x y le low = omega (arith, le, low)
+
+    never : (x y : ℕ) → y ≤ most_turns → 18446744073709551615 + x < y → ⊥
+    never x y low more = omega (arith, low, more)
 
 -- before the first row
 module _ (t : Instance) (sizes : List ℕ) (s : Assignment) (arcs_by_kind : List SortedArcs) (fit : AreRowsWithin t.rows.now) (kinds : AreKinds t.rows.now (length t.rows.now) t.kinds.now)
@@ -402,13 +426,23 @@ module _ (t : Instance) (sizes : List ℕ) (s : Assignment) (arcs_by_kind : List
         | inr within ↦ omega (arith, within)
       ]
 
-  -- the searches for it were broken off, behind more turns than these
-  pub late_in_row : (most : ℕ) (new : Assignment) (arcs_by_kind' : List SortedArcs) (after : ℕ) → IsAssigning t row s new arcs_by_kind' turns after → most < after → IsLate t.rows.now sizes most
-  late_in_row most new arcs_by_kind' after f late =
-      above (asked t.rows.now * (length t.rows.now + length sizes)) (within_all after (most_after after (omega (arith, f.most))))
+  -- the searches for it were broken off, behind more turns than the limit has for the rows that are met
+  pub late_in_row : (limit : TurnLimit) (most : ℕ) (new : Assignment) (arcs_by_kind' : List SortedArcs) (after : ℕ) → turns + number s.deficit.items row * a_search s < 2 ^ 64
+      → (most < 18446744073709551615 → limit.at_first + limit.per_cpu * total (demand_of t.rows.now) row ≤ most)
+      → IsAssigning t row s new arcs_by_kind' turns after → most < after → IsLate t.rows.now sizes limit
+  late_in_row limit most new arcs_by_kind' after fits reached f late = record {
+    met = row;
+    there = lt;
+    more = rw (← asked_first t.rows.now row (omega (arith, lt)), ← asked_first t.rows.now (suc row) (omega (arith, lt)))
+        (above (limit.at_first + limit.per_cpu * total (demand_of t.rows.now) row) (total (demand_of t.rows.now) (suc row) * (length t.rows.now + length sizes))
+        (reached (below (turns + number s.deficit.items row * a_search s) (omega (arith, f.most)) fits)) (most_after after (omega (arith, f.most))));
+  }
     where
-      above : (x : ℕ) → after ≤ x → most < x
-      above x all = omega (arith, all, late)
+      below : (x : ℕ) → after ≤ x → x < 2 ^ 64 → most < 18446744073709551615
+      below x all low = omega (arith, all, low, late)
+
+      above : (x y : ℕ) → x ≤ most → after ≤ y → x < y
+      above x y low all = omega (arith, low, all, late)
 
 -- all rows have what they ask for
 pub done_at_end : (t : Instance) (sizes : List ℕ) (s : Assignment) (arcs_by_kind : List SortedArcs) (row turns : ℕ) → AreAssigned t sizes s arcs_by_kind row turns → row ≡ length t.rows.now → IsDone t.rows.now t.firsts sizes s turns

@@ -7,7 +7,7 @@ use Rattle.std.proofs.lemmas.List.{length_push, get_or_push, get_or_append_left,
 use Rattle.std.proofs.lemmas.Bool.{cases_eq, cases_lt, cases_Bool, or_cases, or_left, or_right, eqb-true, both_ways}
 use Rattle.std.proofs.lemmas.Bool.Decides.{nat_tests}
 use Rattle.cpu_set.specs.Ids.{Ids}
-use Rattle.cpu_set.specs.Pointwise.{contains-empty, contains-insert, contains-remove}
+use Rattle.cpu_set.specs.PointwiseLaws.{contains-empty, contains-insert, contains-remove}
 use Rattle.certificate.specs.declared.rows.Offer.{Offer}
 use Rattle.transport.specs.Numbers.{number, IsIn, IsListing}
 use Rattle.transport.specs.ReachedRows.{is_reached}
@@ -23,7 +23,7 @@ use Rattle.transport.specs.declared.assignment.Assignment.{Assignment}
 use Rattle.transport.specs.declared.tree.SearchTree.{SearchTree}
 use Rattle.transport.specs.declared.tree.TreeClasses.{TreeClasses}
 use Rattle.transport.proofs.Labelling.{better_same, better_more, covered_past, past_rise}
-use Rattle.faults.specs.Tests.{left_over}
+use Rattle.faults.specs.TestLaws.{left_over}
 
 pub no_blocks : (firsts : List ℕ) (arcs : List Arc) → AreBlocks firsts arcs 0 []
 no_blocks firsts arcs = record {

@@ -10,7 +10,7 @@ use Rattle.cpu_set.specs.Ids.{Ids}
 use Rattle.cpu_set.specs.Members.{InRange, IsCpu}
 use Rattle.cpu_set.specs.Least.{least_that}
 use Rattle.cpu_set.specs.LeastLaws.{NonePasses, IsLeastThat, least-passes, least-none}
-use Rattle.cpu_set.specs.Pointwise.{contains-empty}
+use Rattle.cpu_set.specs.PointwiseLaws.{contains-empty}
 use Rattle.cpu_set.specs.SetLaws.{empty_of_none}
 use Rattle.certificate.specs.RowView.{RowView}
 use Rattle.certificate.specs.Weight.{weight, weight_in}

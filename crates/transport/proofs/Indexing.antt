@@ -6,7 +6,7 @@ use Rattle.std.proofs.lemmas.List.{length-set, get_or-set_same, get_or-set_other
 use Rattle.std.proofs.lemmas.Bool.{cases_eq, eq-eqb, ne_eqb, or_right, both_ways}
 use Rattle.cpu_set.specs.Ids.{Ids}
 use Rattle.cpu_set.specs.Members.{IsCpu}
-use Rattle.cpu_set.specs.Pointwise.{contains-empty, contains-insert}
+use Rattle.cpu_set.specs.PointwiseLaws.{contains-empty, contains-insert}
 use Rattle.cpu_set.specs.declared.TheConstants.{CPU_LIMIT}
 use Rattle.transport.specs.Numbers.{number, IsEachOnce}
 use Rattle.transport.specs.Representatives.{IsIndex}

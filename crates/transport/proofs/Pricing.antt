@@ -13,7 +13,7 @@ use Rattle.certificate.specs.Limits.{row_fits, rows_fit, values_fit}
 use Rattle.certificate.specs.Cost.{cost}
 use Rattle.certificate.specs.IsProved.{IsProved}
 use Rattle.certificate.specs.Laws.{ProvedIsLeast}
-use Rattle.certificate.specs.Tests.{and_right}
+use Rattle.certificate.specs.TestLaws.{true_right}
 use Rattle.certificate.specs.declared.price_lists.Price.{Price}
 use Rattle.certificate.specs.declared.limits.TheConstants.{MAX_ROWS, MAX_AMOUNT}
 use Rattle.twins.specs.IsGrouping.{class_at, IsGrouping}
@@ -33,7 +33,7 @@ use Rattle.transport.proofs.Classes.{weighs_as_class, size_of_class, no_size_pas
 
 pub each_row_fits : (rows : List RowView) → IsTrue (rows_fit rows) → IsTrue (list_all row_fits rows)
 unfolding rows_fit
-each_row_fits rows fit = and_right (nat_le (length rows) MAX_ROWS) (list_all row_fits rows) fit
+each_row_fits rows fit = true_right (nat_le (length rows) MAX_ROWS) (list_all row_fits rows) fit
 
 small_value : (n : ℕ) → n ≤ most → nat_le n MAX_AMOUNT ≡ true
 small_value n low = le-leb n MAX_AMOUNT (omega arith)

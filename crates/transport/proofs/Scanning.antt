@@ -80,9 +80,9 @@ pub arcs_can : (ws : ℕ → ℕ → Option ℕ) (s : Assignment) (t : SearchTre
 arcs_can ws s t k row offers firsts l arcs h run there same own =
     rw (same, own) (record { running = run; there = there; weighs = λ i lt. h.arcs.sound i (omega (arith, lt, h.cursor_in)); full = h.full })
 
-pub seen : (ws : ℕ → ℕ → Option ℕ) (s : Assignment) (t mid new : SearchTree) (k : ℕ) (l : SortedArcs) (limit : Option ℕ) → IsBetter ws s t mid → IsScanned (ws k) l limit → IsLimit s.values.items k mid.labels.free_end limit
+pub after_look : (ws : ℕ → ℕ → Option ℕ) (s : Assignment) (t mid new : SearchTree) (k : ℕ) (l : SortedArcs) (limit : Option ℕ) → IsBetter ws s t mid → IsScanned (ws k) l limit → IsLimit s.values.items k mid.labels.free_end limit
     → HasLabelled ws s k mid new l.arcs.items l.cursor → IsSeen ws s k t new
-seen ws s t mid new k l limit b scanned at n = record {
+after_look ws s t mid new k l limit b scanned at n = record {
   better = better_more ws s t mid new b n.better;
   own = λ g w its off. elim (scanned g w its) [
     | inl a ↦ at_arc g w a off

@@ -40,5 +40,5 @@ pub limited_of : (rows : List RowView) (limit : TurnLimit) (found : Option Answe
 limited_of rows limit (Some a) h = h.1
 limited_of rows limit None h = tt
 
-pub late_of : (rows : List RowView) (limit : TurnLimit) (found : Option Answer) → IsSolvedWithin rows limit found → found ≡ None → MayTakeMore rows limit.at_first
+pub late_of : (rows : List RowView) (limit : TurnLimit) (found : Option Answer) → IsSolvedWithin rows limit found → found ≡ None → MayTakeMore rows limit
 late_of rows limit found h is = subst (IsSolvedWithin rows limit) is h

@@ -1,5 +1,5 @@
 -- What assigning the rows ends with.
-use Rattle.std.specs.Prelude.{◌≡◌, ℕ, ◌+◌, ◌*◌, ◌<◌, ◌≤◌, Bool, true, List, map, length, slice_index_or}
+use Rattle.std.specs.Prelude.{◌≡◌, ℕ, suc, ◌+◌, ◌*◌, ◌<◌, ◌≤◌, Bool, true, List, map, length, slice_index_or, take}
 use Rattle.std.specs.List.{count_by}
 use Rattle.certificate.specs.RowView.{RowView}
 use Rattle.certificate.specs.IsShortage.{asked}
@@ -38,15 +38,17 @@ pub record IsStuck (rows : List RowView) (firsts sizes : List ℕ) (reached take
   pub at_least : (k : ℕ) → is_marked reached k ≡ true → 2 * k + (count_by (λ b. b) reached + count_by (λ b. b) taken) ≤ turns
   pub at_most : turns ≤ asked rows * (length rows + length sizes)
 
--- the searches may take more turns than these
-abbrev pub IsLate : List RowView → List ℕ → ℕ → Type 0
-IsLate rows sizes most = most < asked rows * (length rows + length sizes)
+-- the first rows are met, and up to the row behind them the searches may take more turns than the limit has for those met
+pub record IsLate (rows : List RowView) (sizes : List ℕ) (limit : TurnLimit) : Type 0 where
+  pub met : ℕ
+  pub there : met < length rows
+  pub more : limit.at_first + limit.per_cpu * asked (take met rows) < asked (take (suc met) rows) * (length rows + length sizes)
 
--- what the rows get, or that it may take more turns than these
-abbrev pub IsOutcome : List RowView → List ℕ → List ℕ → ℕ → Outcome → Type 0
-IsOutcome rows firsts sizes most (Done assignment turns) = IsDone rows firsts sizes assignment turns
-IsOutcome rows firsts sizes most (Stuck reached taken turns) = IsStuck rows firsts sizes reached.items taken.items turns
-IsOutcome rows firsts sizes most Late = IsLate rows sizes most
+-- what the rows get, or that it may take more turns than the limit has
+abbrev pub IsOutcome : List RowView → List ℕ → List ℕ → TurnLimit → Outcome → Type 0
+IsOutcome rows firsts sizes limit (Done assignment turns) = IsDone rows firsts sizes assignment turns
+IsOutcome rows firsts sizes limit (Stuck reached taken turns) = IsStuck rows firsts sizes reached.items taken.items turns
+IsOutcome rows firsts sizes limit Late = IsLate rows sizes limit
 
 -- the turns that the limit has for all rows, and those of one search
 abbrev pub turns_of_limit : List RowView → List ℕ → TurnLimit → ℕ

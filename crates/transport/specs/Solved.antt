@@ -1,5 +1,5 @@
 -- What a problem comes to: a least plan with what proves it, or a shortage.
-use Rattle.std.specs.Prelude.{◌≡◌, ℕ, ◌+◌, ◌*◌, ◌<◌, ◌≤◌, Bool, cond, List, All, Contains, length, is_some, Option, Some, None}
+use Rattle.std.specs.Prelude.{◌≡◌, ℕ, suc, ◌+◌, ◌*◌, ◌<◌, ◌≤◌, Bool, cond, List, All, Contains, length, take, is_some, Option, Some, None}
 use Rattle.std.specs.FinSet as set
 use Rattle.std.specs.List.{list_any}
 use Rattle.cpu_set.specs.Ids.{Ids}
@@ -71,6 +71,13 @@ ArePricesOfClasses rows (Plan sets prices total turns) =
     IsPricedByClass rows prices.of_cpu × All (λ p. (0 < p.amount) × (0 < set.len p.cpus)) prices.of_cpu
 ArePricesOfClasses rows (Short members turns) = Unit {0}
 
+-- an answer that is right and decided, its twins dealt in order, its prices those of whole classes
+pub record IsAnswerOf (rows : List RowView) (answer : Answer) : Type 0 where
+  pub right : IsRight rows answer
+  pub decided : IsDecided rows answer
+  pub dealt : AreTwinsDealt rows answer
+  pub priced : ArePricesOfClasses rows answer
+
 -- the turns of an answer. A plan has at least the first and the last of a path for each row, and at most the bound. A
 -- shortage has its own.
 abbrev pub AreTurns : List RowView → Answer → Type 0
@@ -97,12 +104,15 @@ abbrev pub IsSolved : List RowView → Answer → Type 0
 IsSolved rows (Plan sets prices total turns) = IsSolvedPlan rows sets prices total turns
 IsSolved rows (Short members turns) = IsSolvedShortage rows members.items turns
 
--- more turns than these may be needed: the bound for all rows is above them
-pub record MayTakeMore (rows : List RowView) (most : ℕ) : Type 0 where
+-- more turns than the limit has may be needed. There are first rows such that it has fewer for these than the bound for
+-- them and one row more.
+pub record MayTakeMore (rows : List RowView) (limit : TurnLimit) : Type 0 where
   pub classes : List Ids
   pub grouping : IsGrouping rows classes
   pub few : length classes ≤ CPU_LIMIT
-  pub more : most < asked rows * (length rows + length classes)
+  pub met : ℕ
+  pub there : met < length rows
+  pub more : limit.at_first + limit.per_cpu * asked (take met rows) < asked (take (suc met) rows) * (length rows + length classes)
 
 -- how many turns an answer took
 abbrev pub turns_taken : Answer → ℕ
@@ -119,4 +129,4 @@ pub record IsWithinLimit (rows : List RowView) (limit : TurnLimit) (turns : ℕ)
 -- an answer within the limit; or none, where more turns may be needed
 abbrev pub IsSolvedWithin : List RowView → TurnLimit → Option Answer → Type 0
 IsSolvedWithin rows limit (Some answer) = IsSolved rows answer × IsWithinLimit rows limit (turns_taken answer)
-IsSolvedWithin rows limit None = MayTakeMore rows limit.at_first
+IsSolvedWithin rows limit None = MayTakeMore rows limit

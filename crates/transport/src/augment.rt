@@ -1,5 +1,5 @@
 //! Rows assigned one after another, and CPUs moved along an augmenting path.
-ghost use Rattle.std.specs.Prelude.{◌≡◌, ℕ, ◌+◌, ◌*◌, ◌<◌, ◌≤◌, ◌^◌, length, IfOk, OnOk, IsTrue, Option, Some};
+ghost use Rattle.std.specs.Prelude.{◌≡◌, ℕ, ◌+◌, ◌-◌, ◌*◌, ◌<◌, ◌≤◌, ◌^◌, length, IfOk, OnOk, IsTrue, Option, Some};
 ghost use Rattle.certificate.specs.AreWithin.{AreRowsWithin};
 ghost use Rattle.twins.specs.Kinds.{offers_of, kind_at, AreKinds};
 ghost use Rattle.transport.specs.SortedArcs.{IsNewSortedArcs};
@@ -56,9 +56,9 @@ pub struct TurnLimit {
 
 /// Assigns the rows one after another, with CPUs of classes of the given sizes.
 ///
-/// A turn is counted for each row or class that a search takes up: at most one search for each CPU that is
-/// asked for, and in a search at most one turn for each row and class. No search is begun behind more turns than the limit
-/// has for the rows that are met.
+/// A turn is counted for each row or class that a search takes up: at most one search for each CPU that is asked for,
+/// and in a search at most one turn for each row and class. No search is begun behind more turns than the limit has for
+/// the rows that are met.
 pub fn assign_all(
     alloc: Global,
     instance: &Instance,
@@ -69,7 +69,7 @@ pub fn assign_all(
     requires kinds { AreKinds instance.now.rows.now (length instance.now.rows.now) instance.now.kinds.now }
     requires classes { length instance.now.firsts ≡ length sizes.now }
     requires few { length sizes.now ≤ CPU_LIMIT }
-    ensures outcome { IfOk result (IsOutcome instance.now.rows.now instance.now.firsts sizes.now limit.at_first) }
+    ensures outcome { IfOk result (IsOutcome instance.now.rows.now instance.now.firsts sizes.now limit) }
     ensures limited { IfOk result (IsOutcomeWithin instance.now.rows.now sizes.now limit) }
 {
     let mut assignment = Assignment::first(alloc, instance, sizes)?;
@@ -99,6 +99,8 @@ pub fn assign_all(
 fn raised(most: u64, limit: TurnLimit, row: &Row) -> u64
     ensures at_least { most ≤ result }
     ensures at_most { result ≤ most + limit.per_cpu * row.now.demand }
+    // It is exactly that, unless it is past all numbers of turns.
+    ensures exact { result < 2 ^ 64 - 1 → most + limit.per_cpu * row.now.demand ≤ result }
 {
     most.saturating_add(limit.per_cpu.saturating_mul(u64::from(row.demand)))
 }
@@ -142,8 +144,8 @@ enum Ended {
     BrokenOff,
 }
 
-/// Searches until the row has what it asks for, until a search finds nothing, or until more than `most` turns are taken;
-/// says which.
+/// Searches until the row has what it asks for, until a search finds nothing, or until more than `most` turns are
+/// taken; says which.
 fn assign_row(
     instance: &Instance,
     assignment: &mut Assignment,

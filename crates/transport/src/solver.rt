@@ -24,6 +24,18 @@ use twins::{Classes, deal, group, kinds_of, prices_of};
 ///
 /// # Errors
 /// An allocation failure; no problem is refused.
+///
+/// ```text
+/// // Row a: CPU 1 at weight 10, CPU 2 at 11. Row b: CPU 1 at 12, CPU 2 at 50. Each asks for one.
+/// match solve(alloc, &problem)? {
+///     // The sets are 2 and 1, and the values 11 and 13; CPU 1 has the price 1. The total is 23, 11 + 13 - 1.
+///     Answer::Plan { plan, prices, total, turns } => ..
+///     // No: the members would be rows that together ask for more CPUs than they may have.
+///     Answer::Short { members, turns } => ..
+/// }
+/// ```
+///
+/// `tests/solve.sh` has the program solve this problem.
 pub fn solve(alloc: Global, problem: &Problem) -> Result<Answer, AllocError>
     requires { IsTrue (rows_fit problem.now) }
 
@@ -64,8 +76,8 @@ fn solve_body(alloc: Global, problem: &Problem) -> Result<Answer, AllocError>
     }
 }
 
-/// What [`solve`] answers, if that takes few turns: once more are taken than the limit has for the rows that are met, no
-/// further search is begun. So an answer took at most the turns that the limit has for all rows, and one search's.
+/// What [`solve`] answers, if that takes few turns: once more are taken than the limit has for the rows that are met,
+/// no further search is begun. So an answer took at most the turns that the limit has for all rows, and one search's.
 ///
 /// # Errors
 /// An allocation failure; no problem is refused.
@@ -97,9 +109,10 @@ pub fn solve_within(
     ensures limited { IfOk result (λ found. IfSome found (λ answer. IsWithinLimit problem.now limit (turns_taken
         answer))) }
 
-    // There is no answer only where more turns may be needed: (rows + classes) × CPUs asked for are more
-    // than the limit's turns at first.
-    ensures late { IfOk result (λ found. found ≡ None → MayTakeMore problem.now limit.at_first) }
+    // There is no answer only where more turns may be needed. The limit has fewer for some first rows, its turns at
+    // first + its turns for each CPU × CPUs that these ask for, than (rows + classes) × CPUs that these and the next
+    // row ask for.
+    ensures late { IfOk result (λ found. found ≡ None → MayTakeMore problem.now limit) }
 {
     solve_within_body(alloc, problem, limit)
 }
@@ -143,7 +156,7 @@ fn assigned(
     requires grouping { IsGrouping rows.now classes.now }
     requires few { length classes.now ≤ CPU_LIMIT }
     ensures outcome { IfOk result (IsOutcome rows.now (map first_of classes.now) (map (λ s. set.len s) classes.now)
-        limit.at_first) }
+        limit) }
     ensures limited { IfOk result (IsOutcomeWithin rows.now (map (λ s. set.len s) classes.now) limit) }
 {
     let firsts = Representatives::new(alloc, classes)?;

@@ -5,12 +5,12 @@ use Rattle.std.specs.FinSet as set
 use Rattle.std.proofs.lemmas.List.Sums.{sum_by-cons}
 use Rattle.cpu_set.specs.Ids.{Ids, IsDisjoint}
 use Rattle.cpu_set.specs.Members.{InRange, cpus}
-use Rattle.cpu_set.specs.Pointwise.{contains-intersection}
+use Rattle.cpu_set.specs.PointwiseLaws.{contains-intersection}
 use Rattle.certificate.specs.PlanFault.{is_held}
-use Rattle.certificate.specs.Sums.{sum_by_none, sum_by_same, sum_by_plus}
-use Rattle.certificate.specs.Cpus.{sum_by-cpus-le}
-use Rattle.certificate.specs.Apart.{AllPairs-tail, AllPairs-head, not_held}
-use Rattle.certificate.specs.Tests.{and_left}
+use Rattle.certificate.specs.SumLaws.{sum_by_none, sum_by_same, sum_by_plus}
+use Rattle.certificate.specs.CpuLaws.{sum_by-cpus-le}
+use Rattle.certificate.specs.ApartLemmas.{AllPairs-tail, AllPairs-head, not_held}
+use Rattle.certificate.specs.TestLaws.{true_left}
 use Rattle.twins.specs.IsPart.{times_in}
 use Rattle.twins.proofs.Sets.{len_sum}
 
@@ -62,7 +62,7 @@ sum_if false sets c = sum_by_none _ sets (λ t. refl)
 pub len_by : (s : Ids) (sets : List Ids) → InRange s → sum_by (λ t. set.len (set.intersection s t)) sets ≡ sum_by (λ c. cond {A = ℕ} (set.contains s c) (times_in sets c) 0) cpus
 len_by s sets in_range =
     sum_by_same _ _ sets (λ t.
-    len_sum (set.intersection s t) (λ n here. in_range n (and_left _ _ (sym (contains-intersection s t n) ∙ here)))
+    len_sum (set.intersection s t) (λ n here. in_range n (true_left _ _ (sym (contains-intersection s t n) ∙ here)))
     ∙ sum_by_same _ _ cpus (λ c. ap (λ b. cond {A = ℕ} b 1 0) (contains-intersection s t c) ∙ in_both (set.contains s c) (set.contains t c)))
     ∙ sum_by_swap (λ (t : Ids) (c : ℕ). cond {A = ℕ} (set.contains s c) (cond {A = ℕ} (set.contains t c) 1 0) 0) sets cpus
     ∙ sum_by_same _ _ cpus (λ c. sum_if (set.contains s c) sets c)

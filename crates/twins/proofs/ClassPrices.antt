@@ -6,16 +6,16 @@ use Rattle.std.proofs.Math.Numerals.{add-one}
 use Rattle.std.specs.FinSet as set
 use Rattle.std.proofs.lemmas.Bool.{true≢false, eqb-true, and_from, or_parts}
 use Rattle.cpu_set.specs.Ids.{Ids, IsDisjoint}
-use Rattle.cpu_set.specs.Pointwise.{contains-empty}
+use Rattle.cpu_set.specs.PointwiseLaws.{contains-empty}
 use Rattle.certificate.specs.IsDealt.{Holds}
 use Rattle.certificate.specs.PlanFault.{is_held}
 use Rattle.certificate.specs.Price.{price}
 use Rattle.certificate.specs.declared.price_lists.Price.{Price}
-use Rattle.certificate.specs.Apart.{IsApartFrom, AllPairs-tail, AllPairs-head, not_held}
+use Rattle.certificate.specs.ApartLemmas.{IsApartFrom, AllPairs-tail, AllPairs-head, not_held}
 use Rattle.certificate.specs.Limits.{is_disjoint, are_apart, values_fit, prices_fit}
 use Rattle.certificate.specs.declared.limits.TheConstants.{MAX_AMOUNT}
-use Rattle.certificate.specs.ApartTest.{is_disjoint-true}
-use Rattle.certificate.specs.Tests.{and_left, and_right}
+use Rattle.certificate.specs.ApartTestLemmas.{is_disjoint-true}
+use Rattle.certificate.specs.TestLaws.{true_left, true_right}
 use Rattle.twins.specs.IsPriced.{class_prices, with_price}
 
 -- the price of a CPU, where a set is priced before others
@@ -95,7 +95,7 @@ class_prices_more classes prices g s in_classes in_prices is = rw add-one (price
 small_prices : (classes : List Ids) (prices : List ℕ) → values_fit prices ≡ true → list_all (λ (p : Price). nat_le p.amount MAX_AMOUNT) (class_prices classes prices) ≡ true
 small_prices [] prices fit = refl
 small_prices (s ∷ classes) [] fit = refl
-small_prices (s ∷ classes) (p ∷ prices) fit = by_cases (p == 0) (and_left _ _ fit) (small_prices classes prices (and_right _ _ fit))
+small_prices (s ∷ classes) (p ∷ prices) fit = by_cases (p == 0) (true_left _ _ fit) (small_prices classes prices (true_right _ _ fit))
   where
     by_cases : (b : Bool) → nat_le p MAX_AMOUNT ≡ true → list_all (λ (q : Price). nat_le q.amount MAX_AMOUNT) (class_prices classes prices) ≡ true
         → list_all (λ (q : Price). nat_le q.amount MAX_AMOUNT) (cond b (class_prices classes prices) (record { amount = p; cpus = s } ∷ class_prices classes prices)) ≡ true

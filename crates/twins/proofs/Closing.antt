@@ -14,8 +14,8 @@ use Rattle.cpu_set.specs.Members.{InRange, cpus}
 use Rattle.certificate.specs.RowView.{RowView}
 use Rattle.certificate.specs.Weight.{weight}
 use Rattle.certificate.specs.IsShortage.{chosen, is_offered, IsShortage}
-use Rattle.certificate.specs.Sums.{sum_by_none, sum_by_same}
-use Rattle.certificate.specs.Cpus.{sum_by-cpus-le}
+use Rattle.certificate.specs.SumLaws.{sum_by_none, sum_by_same}
+use Rattle.certificate.specs.CpuLaws.{sum_by-cpus-le}
 use Rattle.twins.specs.IsGrouping.{class_at, IsGrouping}
 use Rattle.twins.specs.ClassWeight.{weight_at}
 use Rattle.twins.specs.IsClosed.{taken_size, IsClosed, ClosedRowsAreShort}

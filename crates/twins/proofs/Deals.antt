@@ -11,10 +11,10 @@ use Rattle.std.specs.List.Sorted.{IsPermutation, IsNonDecreasingBy}
 use Rattle.std.proofs.lemmas.List.Sorted.{sum_by-IsPermutation}
 use Rattle.cpu_set.specs.Members.{InRange}
 use Rattle.cpu_set.specs.Ids.{Ids, IsFirstFrom, NoneFrom}
-use Rattle.cpu_set.specs.Pointwise.{contains-empty, contains-insert, contains-remove, contains-union, contains-intersection, contains-difference, same_members}
+use Rattle.cpu_set.specs.PointwiseLaws.{contains-empty, contains-insert, contains-remove, contains-union, contains-intersection, contains-difference, same_members}
 use Rattle.cpu_set.specs.SetLaws.{empty_of_none}
 use Rattle.certificate.specs.IsDealt.{Holds}
-use Rattle.certificate.specs.Tests.{and_left, and_right}
+use Rattle.certificate.specs.TestLaws.{true_left, true_right}
 use Rattle.twins.specs.Holdings.{share_of, shared_out}
 use Rattle.twins.specs.IsDeal.{IsTaken, IsMoved, IsFirst, IsClassDeal}
 use Rattle.twins.specs.declared.holders.Share.{Share}
@@ -53,10 +53,10 @@ taken_more old new taken new_after taken_after count cpu so_far first new_is tak
       once = λ c here.
           contains-remove new cpu c
           ∙ false_from_ne_true _ (λ left.
-          by_cases c (or_cases _ _ (sym (contains-insert taken cpu c) ∙ here)) (and_left _ _ left) (and_right _ _ left));
+          by_cases c (or_cases _ _ (sym (contains-insert taken cpu c) ∙ here)) (true_left _ _ left) (true_right _ _ left));
       below = λ a b here left.
           let kept : (not (b == cpu) && fin.contains new b) ≡ true = sym (contains-remove new cpu b) ∙ left in
-          lower a b (or_cases _ _ (sym (contains-insert taken cpu a) ∙ here)) (not-true _ (and_left _ _ kept)) (and_right _ _ kept);
+          lower a b (or_cases _ _ (sym (contains-insert taken cpu a) ∙ here)) (not-true _ (true_left _ _ kept)) (true_right _ _ kept);
       as_many = many ∙ ap (λ n. n + 1) so_far.as_many;
       left = omega (arith, few, some, so_far.left);
     })
@@ -177,7 +177,7 @@ pub record Dealing (class : Ids) (done : List Share) (old new : List Ids) (rest 
 pub none_held :
     (s class : Ids) → ((c : ℕ) → fin.contains class c ≡ true → fin.contains s c ≡ true → ⊥) → fin.len (fin.intersection s class) ≡ 0
 none_held s class never =
-    ap fin.len (empty_of_none (fin.intersection s class) (λ c _. contains-intersection s class c ∙ false_from_ne_true _ (λ here. never c (and_right _ _ here) (and_left _ _ here))))
+    ap fin.len (empty_of_none (fin.intersection s class) (λ c _. contains-intersection s class c ∙ false_from_ne_true _ (λ here. never c (true_right _ _ here) (true_left _ _ here))))
     ∙ fin.len-empty nat_cmp
 
 -- none are dealt yet
@@ -305,7 +305,7 @@ module _
       without_now false false g never = refl
 
   both_parts : fin.len holds_after ≡ fin.len (fin.intersection holds_after dealt_now) + fin.len (fin.difference holds_after dealt_now)
-  both_parts = len_split holds_after dealt_now (λ n here. in_range n (and_right _ _ (sym (contains-intersection (at new_after row) class n) ∙ here)))
+  both_parts = len_split holds_after dealt_now (λ n here. in_range n (true_right _ _ (sym (contains-intersection (at new_after row) class n) ∙ here)))
 
   row_counts : fin.len holds_after ≡ fin.len (fin.intersection (at new row) class) + amount
   row_counts = omega (arith, both_parts, ap fin.len now_part, ap fin.len before_part, taken.as_many)

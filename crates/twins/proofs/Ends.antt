@@ -1,7 +1,7 @@
 -- Where the ranges of a set begin, and what lies behind them.
 use Rattle.cpu_set.specs.Ids.{Ids}
 use Rattle.cpu_set.specs.Members.{IsComplement, IsCpu}
-use Rattle.cpu_set.specs.Pointwise.{contains-empty, contains-insert}
+use Rattle.cpu_set.specs.PointwiseLaws.{contains-empty, contains-insert}
 use Rattle.cpu_set.specs.declared.TheConstants.{CPU_LIMIT}
 use Rattle.std.proofs.Common.{Bool, ap, arith, false, inl, inr, nat_lt, not, refl, sym, true, ℕ, ◌&&◌, ◌+◌, ◌<◌, ◌∙◌, ◌≡◌, ◌≤◌}
 use Rattle.std.proofs.lemmas.Bool.{cases_eq, cases_lt, eq-eqb, le-leb, or_left, or_right, true≢false}

@@ -3,14 +3,14 @@ use Rattle.std.proofs.Common.{◌≡◌, ℕ, suc, ◌<◌, ◌≤◌, cond, Lis
 use Rattle.std.specs.Prelude.{All}
 use Rattle.std.specs.FinSet as set
 use Rattle.std.proofs.lemmas.List.Sums.{sum_by-cons}
-use Rattle.certificate.specs.Tests.{one_at_most}
+use Rattle.certificate.specs.TestLaws.{one_at_most}
 use Rattle.cpu_set.specs.Ids.{Ids}
 use Rattle.cpu_set.specs.Members.{InRange, cpus}
 use Rattle.cpu_set.specs.declared.TheConstants.{CPU_LIMIT}
 use Rattle.certificate.specs.RowView.{RowView}
 use Rattle.certificate.specs.PlanFault.{is_held}
-use Rattle.certificate.specs.Sums.{sum_by-constant}
-use Rattle.certificate.specs.Cpus.{sum_by-cpus-le, length-cpus}
+use Rattle.certificate.specs.SumLaws.{sum_by-constant}
+use Rattle.certificate.specs.CpuLaws.{sum_by-cpus-le, length-cpus}
 use Rattle.twins.specs.IsGrouping.{IsGrouping}
 use Rattle.twins.specs.IsPart.{times_in}
 use Rattle.twins.proofs.Sets.{len_sum}

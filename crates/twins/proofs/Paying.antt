@@ -13,7 +13,7 @@ use Rattle.std.proofs.lemmas.List.Sums.{sum_by-cons}
 use Rattle.std.proofs.lemmas.List.Elements.{All-head, All-tail}
 use Rattle.cpu_set.specs.Ids.{Ids, IsDisjoint}
 use Rattle.cpu_set.specs.Members.{InRange, cpus, members}
-use Rattle.cpu_set.specs.Pointwise.{contains-remove, contains-intersection, same_members}
+use Rattle.cpu_set.specs.PointwiseLaws.{contains-remove, contains-intersection, same_members}
 use Rattle.certificate.specs.RowView.{RowView}
 use Rattle.certificate.specs.Weight.{weight}
 use Rattle.certificate.specs.IsPlan.{Meets, IsPlan}
@@ -23,11 +23,11 @@ use Rattle.certificate.specs.IsBound.{IsValueOf, worth, IsBound}
 use Rattle.certificate.specs.IsDealt.{Holds}
 use Rattle.certificate.specs.PlanFault.{is_held}
 use Rattle.certificate.specs.declared.price_lists.Price.{Price}
-use Rattle.certificate.specs.Apart.{AllPairs-tail, AllPairs-head, not_held}
+use Rattle.certificate.specs.ApartLemmas.{AllPairs-tail, AllPairs-head, not_held}
 use Rattle.certificate.specs.Limits.{rows_fit, values_fit, prices_fit, is_within_limits}
-use Rattle.certificate.specs.Tests.{and_right}
-use Rattle.certificate.specs.Cpus.{len-times}
-use Rattle.certificate.specs.Sums.{sum_by_none, sum_by_same, sum_by_plus, sum_by-filter}
+use Rattle.certificate.specs.TestLaws.{true_right}
+use Rattle.certificate.specs.CpuLaws.{len-times}
+use Rattle.certificate.specs.SumLaws.{sum_by_none, sum_by_same, sum_by_plus, sum_by-filter}
 use Rattle.twins.specs.IsGrouping.{class_at, IsGrouping}
 use Rattle.twins.specs.ClassWeight.{weight_at, class_weight}
 use Rattle.twins.specs.Holdings.{share_of, shared_out, cell, held_of}
@@ -250,7 +250,7 @@ module _
       rest_in_range : InRange (set.remove (class_at classes g) c)
       rest_in_range n member =
           grouping.in_range g set.empty (there classes g c here) n
-          (and_right (not (n == c)) (set.contains (class_at classes g) n) (sym (contains-remove (class_at classes g) c n) ∙ member))
+          (true_right (not (n == c)) (set.contains (class_at classes g) n) (sym (contains-remove (class_at classes g) c n) ∙ member))
 
       not_in : (k : ℕ) → k < length sets → set.contains (at sets k) c ≡ false
       not_in k lt = by_cases (set.contains (at sets k) c) refl

@@ -8,7 +8,7 @@ use Rattle.std.proofs.lemmas.List.{get_or_past, get_or_default, length-replicate
 use Rattle.std.proofs.lemmas.List.Folds.{list_any_at}
 use Rattle.cpu_set.specs.Ids.{Ids, IsDisjoint}
 use Rattle.cpu_set.specs.Members.{InRange}
-use Rattle.cpu_set.specs.Pointwise.{contains-empty, contains-intersection, same_members}
+use Rattle.cpu_set.specs.PointwiseLaws.{contains-empty, contains-intersection, same_members}
 use Rattle.certificate.specs.IsDealt.{Holds}
 use Rattle.twins.specs.Holdings.{cell, share_of}
 use Rattle.twins.specs.IsDeal.{IsDeal, IsClassDeal}

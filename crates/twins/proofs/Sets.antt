@@ -6,10 +6,10 @@ use Rattle.std.proofs.lemmas.List.{get_or_past}
 use Rattle.std.proofs.lemmas.List.Sums.{length-filter}
 use Rattle.cpu_set.specs.Ids.{Ids}
 use Rattle.cpu_set.specs.Members.{InRange, cpus}
-use Rattle.cpu_set.specs.Pointwise.{contains-empty, contains-intersection, contains-difference}
+use Rattle.cpu_set.specs.PointwiseLaws.{contains-empty, contains-intersection, contains-difference}
 use Rattle.cpu_set.specs.SetLaws.{length-members}
-use Rattle.certificate.specs.Sums.{sum_by_same, sum_by_plus}
-use Rattle.certificate.specs.Tests.{and_left}
+use Rattle.certificate.specs.SumLaws.{sum_by_same, sum_by_plus}
+use Rattle.certificate.specs.TestLaws.{true_left}
 use Rattle.certificate.specs.IsDealt.{Holds}
 
 -- an empty set has no member
@@ -39,8 +39,8 @@ one_of_two false b = omega arith
 -- a set has the members that are in another set, and those that are not
 pub len_split : (s t : Ids) → InRange s → set.len s ≡ set.len (set.intersection s t) + set.len (set.difference s t)
 len_split s t in_range =
-    let met : InRange (set.intersection s t) = λ n here. in_range n (and_left _ _ (sym (contains-intersection s t n) ∙ here)) in
-    let left : InRange (set.difference s t) = λ n here. in_range n (and_left _ _ (sym (contains-difference s t n) ∙ here)) in
+    let met : InRange (set.intersection s t) = λ n here. in_range n (true_left _ _ (sym (contains-intersection s t n) ∙ here)) in
+    let left : InRange (set.difference s t) = λ n here. in_range n (true_left _ _ (sym (contains-difference s t n) ∙ here)) in
     rw (len_sum s in_range, len_sum (set.intersection s t) met, len_sum (set.difference s t) left)
     (sum_by_same _ _ cpus (λ c.
     one_of_two (set.contains s c) (set.contains t c)

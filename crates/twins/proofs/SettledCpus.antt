@@ -6,8 +6,8 @@ use Rattle.std.proofs.lemmas.Bool.Decides.{nat_tests}
 use Rattle.std.proofs.lemmas.List.{get_or_default}
 use Rattle.std.proofs.lemmas.List.Folds.{list_any_at}
 use Rattle.cpu_set.specs.Ids.{Ids}
-use Rattle.cpu_set.specs.Pointwise.{contains-empty, contains-insert, contains-union, contains-intersection, contains-difference, is_subset-contains}
-use Rattle.certificate.specs.Tests.{and_right}
+use Rattle.cpu_set.specs.PointwiseLaws.{contains-empty, contains-insert, contains-union, contains-intersection, contains-difference, is_subset-contains}
+use Rattle.certificate.specs.TestLaws.{true_right}
 use Rattle.certificate.specs.RowView.{RowView}
 use Rattle.certificate.specs.Weight.{weight, weight_in}
 use Rattle.certificate.specs.IsDealt.{AreTwins}
@@ -94,7 +94,7 @@ counted_repeated rows kinds k m offered twice kind before h = record {
 pub counted_once : (rows : List RowView) (k : ℕ) (offered twice once : Ids) → length rows ≤ k → AreCounted rows k offered twice → once ≡ set.difference offered twice → AreOnce rows once
 counted_once rows k offered twice once all h is cpu i j on in_i in_j some_i some_j =
     h.apart cpu i j (omega (arith, in_i, all)) (omega (arith, in_j, all)) some_i some_j
-    (not-true _ (and_right _ _ (sym (contains-difference offered twice cpu) ∙ subst (λ s. set.contains s cpu ≡ true) is on)))
+    (not-true _ (true_right _ _ (sym (contains-difference offered twice cpu) ∙ subst (λ s. set.contains s cpu ≡ true) is on)))
 
 -- ---- CPUs that are settled
 

@@ -8,8 +8,8 @@ use Rattle.std.proofs.lemmas.List.Sums.{sum_by_push}
 use Rattle.std.proofs.lemmas.List.Elements.{All-more, All-take, All-push}
 use Rattle.cpu_set.specs.Ids.{Ids, NoneFrom, IsFirstFrom}
 use Rattle.cpu_set.specs.Members.{IsCpu, InRange}
-use Rattle.cpu_set.specs.Pointwise.{contains-intersection, contains-difference}
-use Rattle.certificate.specs.Tests.{and_left, and_right}
+use Rattle.cpu_set.specs.PointwiseLaws.{contains-intersection, contains-difference}
+use Rattle.certificate.specs.TestLaws.{true_left, true_right}
 use Rattle.certificate.specs.RowView.{RowView}
 use Rattle.certificate.specs.Weight.{weight}
 use Rattle.certificate.specs.IsDealt.{AreTwins}
@@ -83,7 +83,7 @@ pub in_piece : (row : RowView) (cpu : ℕ) (rest piece : Ids) → IsAlike row cp
     → (set.contains rest q ≡ true) × (weight row cpu ≡ weight row q)
 in_piece row cpu rest piece alike q has =
     let e = sym (alike q) ∙ has in
-    (and_left _ _ e, same_says _ _ (and_right _ _ e))
+    (true_left _ _ e, same_says _ _ (true_right _ _ e))
 
 pub to_piece : (row : RowView) (cpu : ℕ) (rest piece : Ids) → IsAlike row cpu rest piece → (q : ℕ) → set.contains rest q ≡ true → weight row cpu ≡ weight row q
     → set.contains piece q ≡ true
@@ -181,10 +181,10 @@ splitting_more rows k cpu row edges part rest piece rest_new parts_old alone_old
     let minus : (c : ℕ) → set.contains rest_new c ≡ (set.contains rest c && not (set.contains piece c)) =
     λ c. ap (λ s. set.contains s c) left ∙ contains-difference rest piece c in
     record {
-      within = λ c here. splitting.within c (and_left _ _ (sym (minus c) ∙ here));
+      within = λ c here. splitting.within c (true_left _ _ (sym (minus c) ∙ here));
       whole = λ a b here twins offered.
-          let in_rest : set.contains rest a ≡ true = and_left _ _ (sym (minus a) ∙ here) in
-          let not_in : set.contains piece a ≡ false = not-true _ (and_right _ _ (sym (minus a) ∙ here)) in
+          let in_rest : set.contains rest a ≡ true = true_left _ _ (sym (minus a) ∙ here) in
+          let not_in : set.contains piece a ≡ false = not-true _ (true_right _ _ (sym (minus a) ∙ here)) in
           minus b ∙ and_from _ _ (splitting.whole a b in_rest twins offered)
           (not_is _ (λ in_piece_b.
           true≢false (sym (to_piece row cpu rest piece alike a in_rest
@@ -231,13 +231,13 @@ not_below s first is q on = elim (cases_lt q first) [ inl below ↦ absurd (true
 
 -- what is left behind the piece that has the first CPU is above it
 pub left_above : (row : RowView) (cpu : ℕ) (rest piece rest_new : Ids) → IsFirstFrom rest 0 cpu → IsAlike row cpu rest piece → rest_new ≡ set.difference rest piece → (q : ℕ) → set.contains rest_new q ≡ true → cpu < q
-left_above row cpu rest piece rest_new first alike left q on = elim (cases_lt cpu q) [ inl lt ↦ lt | inr le ↦ absurd (at_first (omega (arith, le, not_below rest cpu first q (and_left _ _ both)))) ]
+left_above row cpu rest piece rest_new first alike left q on = elim (cases_lt cpu q) [ inl lt ↦ lt | inr le ↦ absurd (at_first (omega (arith, le, not_below rest cpu first q (true_left _ _ both)))) ]
   where
     both : (set.contains rest q && not (set.contains piece q)) ≡ true
     both = sym (ap (λ s. set.contains s q) left ∙ contains-difference rest piece q) ∙ on
 
     at_first : q ≡ cpu → ⊥
-    at_first e = true≢false (sym (to_piece row cpu rest piece alike cpu first.member refl) ∙ subst (λ x. set.contains piece x ≡ false) e (not-true (set.contains piece q) (and_right (set.contains rest q) (not (set.contains piece q)) both)))
+    at_first e = true≢false (sym (to_piece row cpu rest piece alike cpu first.member refl) ∙ subst (λ x. set.contains piece x ≡ false) e (not-true (set.contains piece q) (true_right (set.contains rest q) (not (set.contains piece q)) both)))
 
 -- where all members are above a CPU, the first one above it is the first of all
 pub first_at_all : (s : Ids) (below : ℕ) (next : Option ℕ) → ((q : ℕ) → set.contains s q ≡ true → below < q) → MatchOption next (NoneFrom s (below + 1)) (λ n. IsFirstFrom s (below + 1) n) → MatchOption next (NoneFrom s 0) (λ n. IsFirstFrom s 0 n)

@@ -3,7 +3,7 @@ use Rattle.std.proofs.Common.{◌≡◌, ℕ, zero, suc, ◌+◌, ◌<◌, ◌�
 use Rattle.std.specs.FinSet as set
 use Rattle.std.specs.List.{AllPairs}
 use Rattle.std.proofs.lemmas.List.Sums.{sum_by-cons, sum_by_push}
-use Rattle.certificate.specs.Tests.{one_at_most}
+use Rattle.certificate.specs.TestLaws.{one_at_most}
 use Rattle.cpu_set.specs.Ids.{Ids, IsDisjoint}
 use Rattle.certificate.specs.PlanFault.{is_held}
 use Rattle.twins.specs.IsPart.{times_in, IsPutTo}

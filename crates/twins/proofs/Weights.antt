@@ -9,9 +9,9 @@ use Rattle.std.proofs.lemmas.List.Folds.{find-append}
 use Rattle.certificate.specs.Weight.{weight_in}
 use Rattle.certificate.specs.Limits.{offers_fit}
 use Rattle.certificate.specs.declared.rows.Offer.{Offer}
-use Rattle.certificate.specs.ApartTest.{apart_at}
+use Rattle.certificate.specs.ApartTestLemmas.{apart_at}
 use Rattle.certificate.specs.OfferLaws.{offers_apart}
-use Rattle.certificate.specs.Offers.{is_some-find}
+use Rattle.certificate.specs.OfferLemmas.{is_some-find}
 use Rattle.twins.specs.IsPart.{is_same_weight}
 use Rattle.certificate.specs.RisingOffers.{AreRising}
 use Rattle.std.proofs.Math.Bool.{or-false}

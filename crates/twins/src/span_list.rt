@@ -69,7 +69,7 @@ impl SpanList {
     ///
     /// # Errors
     /// An allocation failure.
-    // Inlined: as a call it takes some 55 instructions more for each offer.
+    // Inlined: as a call it takes some 5 instructions more for each offer.
     #[inline(always)]
     pub(crate) fn add(&mut self, ranges: &[(u16, u16)], weight: u32) -> Result<(), AllocError>
         requires { All (λ r. r.1 < CPU_LIMIT) ranges.now }

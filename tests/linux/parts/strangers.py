@@ -68,7 +68,7 @@ def a_process():
         tree.spawn(busy)
         bundle, run = tree.Containers().bundle("one", quota=1), tree.Run(root=busy)
         run.ok(f"create one {bundle}", "refused E50 KernelFault")
-        assert "numarun/cgroup.subtree_control: Operation not supported" in run.said()[-1]
+        assert "numarun/cgroup.subtree_control: +cpuset: Operation not supported" in run.said()[-1]
         run.close()
 
 

@@ -3,7 +3,7 @@ use Rattle.std.proofs.Common.{◌≡◌, ℕ, ◌==◌, ◌&&◌, if◌then◌el
 use Rattle.std.specs.List.{list_all}
 use Rattle.std.specs.FinSet as set
 use Rattle.cpu_set.specs.Ids.{is_same}
-use Rattle.cpu_set.specs.ListedSets.{is_in, count_once, intersection-listed, union-listed, is_subset-listed, len-listed}
+use Rattle.cpu_set.specs.ListedSetLemmas.{is_in, count_once, intersection-listed, union-listed, is_subset-listed, len-listed}
 use Rattle.apply_plan.specs.Kept.{kept}
 use Rattle.apply_plan.proofs.laws.worked.Goals as goal
 

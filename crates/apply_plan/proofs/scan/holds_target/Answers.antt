@@ -1,11 +1,11 @@
 use Rattle.std.proofs.Common.{◌≡◌, false, sym, ap, subst, ◌∙◌}
 use Rattle.std.proofs.lemmas.Bool.{both_ways, not-true}
 use Rattle.cpu_set.specs.Ids.{is_empty}
-use Rattle.cpu_set.specs.Pointwise.{is_same_decides}
+use Rattle.cpu_set.specs.PointwiseLaws.{is_same_decides}
 use Rattle.apply_plan.specs.Kept.{kept}
 use Rattle.apply_plan.specs.KeptLemmas.{kept_target}
-use Rattle.apply_plan.proofs.scan.holds_target.Goals as goal
 use Rattle.cpu_set.specs.SetLaws.{is_empty-some}
+use Rattle.apply_plan.proofs.scan.holds_target.Goals as goal
 
 pub returns-then-eq : goal.returns-then-eq
 returns-then-eq c = λ yes reserved.

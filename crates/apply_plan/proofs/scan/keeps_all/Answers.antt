@@ -2,8 +2,8 @@ use Rattle.std.proofs.Common.{sym, ap, ◌∙◌}
 use Rattle.std.proofs.lemmas.Bool.{both_ways}
 use Rattle.std.specs.FinSet as set
 use Rattle.apply_plan.specs.KeptLemmas.{kept_all}
-use Rattle.apply_plan.proofs.scan.keeps_all.Goals as goal
 use Rattle.cpu_set.specs.SetLaws.{is_empty-some}
+use Rattle.apply_plan.proofs.scan.keeps_all.Goals as goal
 
 pub returns-then-not-is_empty : goal.returns-then-not-is_empty
 returns-then-not-is_empty c = λ yes.

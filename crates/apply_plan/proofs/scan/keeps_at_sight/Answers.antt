@@ -1,10 +1,10 @@
 use Rattle.std.proofs.Common.{◌≡◌, sym, ap, ◌∙◌}
 use Rattle.std.proofs.lemmas.Bool.{both_ways, not-true}
-use Rattle.cpu_set.specs.Pointwise.{is_same_decides}
+use Rattle.cpu_set.specs.PointwiseLaws.{is_same_decides}
 use Rattle.apply_plan.specs.Kept.{kept}
 use Rattle.apply_plan.specs.KeptLemmas.{kept_part, kept_reserved}
-use Rattle.apply_plan.proofs.scan.keeps_at_sight.Goals as goal
 use Rattle.cpu_set.specs.SetLaws.{is_empty-some}
+use Rattle.apply_plan.proofs.scan.keeps_at_sight.Goals as goal
 
 pub returns-then-eq : goal.returns-then-eq
 returns-then-eq c = λ _.

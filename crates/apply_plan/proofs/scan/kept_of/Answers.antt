@@ -2,8 +2,8 @@ use Rattle.std.proofs.Common.{sym, ◌∙◌, ap, refl}
 use Rattle.std.proofs.lemmas.Bool.{iff_false}
 use Rattle.std.specs.FinSet as set
 use Rattle.apply_plan.specs.KeptLemmas.{kept_nothing, kept_some}
-use Rattle.apply_plan.proofs.scan.kept_of.Goals as goal
 use Rattle.cpu_set.specs.SetLaws.{is_empty-empty, is_empty-some}
+use Rattle.apply_plan.proofs.scan.kept_of.Goals as goal
 
 pub returns-then-is_empty : goal.returns-then-is_empty
 returns-then-is_empty c =

@@ -1,4 +1,4 @@
-use Rattle.apply_plan.specs.KernelFacts.{made_is_placed}
+use Rattle.apply_plan.specs.KernelFactLemmas.{made_is_placed}
 use Rattle.apply_plan.specs.DueLemmas.{due_is_placed}
 use Rattle.apply_plan.proofs.scan.make_due.Goals as goal
 

@@ -1,6 +1,6 @@
 use Rattle.std.proofs.Common.{not, sym, ap}
 use Rattle.std.specs.Prelude.{cond, Some, None}
-use Rattle.cpu_set.specs.Pointwise.{is_same_decides}
+use Rattle.cpu_set.specs.PointwiseLaws.{is_same_decides}
 use Rattle.apply_plan.specs.Kept.{kept}
 use Rattle.apply_plan.proofs.scan.release_if_some.Goals as goal
 

@@ -1,5 +1,5 @@
 use Rattle.std.proofs.lemmas.List.{take_rest}
-use Rattle.byte_output.specs.Sending.{HasSent-more}
+use Rattle.byte_output.specs.SendingLemmas.{HasSent-more}
 use Rattle.byte_output.proofs.output.put.Goals as goal
 
 pub loop-rest-preserved : goal.loop-rest-preserved

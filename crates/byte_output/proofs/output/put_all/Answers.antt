@@ -1,7 +1,7 @@
 -- At a fault the parts before went out, and a front of the one that was written.
 use Rattle.std.proofs.Common.{ℕ, List, Bor}
 use Rattle.std.proofs.lemmas.Result.{err_from_is_err_and}
-use Rattle.byte_output.specs.Sending.{sends_part}
+use Rattle.byte_output.specs.SendingLemmas.{sends_part}
 use Rattle.byte_output.proofs.output.put_all.Goals as goal
 
 pub returns-in_err-put : goal.returns-in_err-put

@@ -4,7 +4,7 @@ use Rattle.std.specs.FinSet as set
 use Rattle.faults.specs.First.{first_below}
 use Rattle.cpu_set.specs.Members.{cpus}
 use Rattle.cpu_set.specs.Least.{least_that}
-use Rattle.cpu_set.specs.ListedSets.{contains-listed, intersection-listed, len-listed}
+use Rattle.cpu_set.specs.ListedSetLemmas.{contains-listed, intersection-listed, len-listed}
 use Rattle.certificate.specs.Cost.{cost}
 use Rattle.certificate.specs.Price.{all_prices}
 use Rattle.certificate.specs.IsShortage.{chosen, offered}

@@ -1,9 +1,9 @@
 use Rattle.std.proofs.Common.{Some, option_map, ap, ◌∙◌, arith, below_more}
-use Rattle.cpu_set.specs.Pointwise.{contains-empty}
+use Rattle.cpu_set.specs.PointwiseLaws.{contains-empty}
 use Rattle.faults.specs.FirstLaws.{first_below-at, first_below-none}
 use Rattle.certificate.specs.PlanFault.{twice_fault, apart_fault}
 use Rattle.certificate.specs.declared.fault.CheckFault.TheVariants.{HeldTwice}
-use Rattle.certificate.specs.ApartTest.{is_in_one_more}
+use Rattle.certificate.specs.ApartTestLemmas.{is_in_one_more}
 use Rattle.certificate.proofs.RowFaults.{twice_is}
 use Rattle.certificate.proofs.row_checks.check_apart.Goals as goal
 

@@ -1,7 +1,7 @@
 use Rattle.certificate.proofs.Elements.{element_at}
 use Rattle.std.proofs.lemmas.Bool.{both_ways}
-use Rattle.certificate.specs.ApartTest.{are_apart_more, are_apart_stop, is_in_one_more}
-use Rattle.cpu_set.specs.Pointwise.{contains-empty}
+use Rattle.certificate.specs.ApartTestLemmas.{are_apart_more, are_apart_stop, is_in_one_more}
+use Rattle.cpu_set.specs.PointwiseLaws.{contains-empty}
 use Rattle.std.proofs.Common.{arith, length, refl, sym, ◌<◌}
 use Rattle.certificate.proofs.set_checks.are_apart.Goals as goal
 

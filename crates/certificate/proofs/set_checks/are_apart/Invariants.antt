@@ -1,4 +1,4 @@
-use Rattle.certificate.specs.ApartTest.{is_in_one}
+use Rattle.certificate.specs.ApartTestLemmas.{is_in_one}
 use Rattle.certificate.specs.Limits.{are_apart}
 use Rattle.std.proofs.Common.{take, true, ℕ, ◌≡◌}
 use Rattle.std.specs.FinSet as set

@@ -1,9 +1,9 @@
 use Rattle.std.proofs.Common.{◌≡◌, refl, sym, ◌∙◌}
 use Rattle.std.proofs.lemmas.Option.{none-some}
 use Rattle.std.proofs.lemmas.Bool.{false≢true}
-use Rattle.cpu_set.specs.Pointwise.{same_members}
+use Rattle.cpu_set.specs.PointwiseLaws.{same_members}
 use Rattle.cpu_set.specs.declared.TheConstants.{CPU_LIMIT}
-use Rattle.cpu_list.specs.FirstFaults.{none_where_list}
+use Rattle.cpu_list.specs.FirstFaultLaws.{none_where_list}
 use Rattle.certificate_text.proofs.list_word.read_cpus.Goals as goal
 
 pub returns-in_default : goal.returns-in_default

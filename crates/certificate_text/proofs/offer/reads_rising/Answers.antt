@@ -2,11 +2,11 @@ use Rattle.std.proofs.Common.{rules, ◌≡◌, ◌≢◌, ◌∙◌, ℕ, List,
 use Rattle.std.specs.FinSet as set
 use Rattle.cpu_set.specs.Ids.{Ids}
 use Rattle.cpu_set.specs.Members.{cpus}
-use Rattle.cpu_set.specs.Pointwise.{contains-empty}
+use Rattle.cpu_set.specs.PointwiseLaws.{contains-empty}
 use Rattle.cpu_set.specs.Ranges.{ranges_of}
 use Rattle.cpu_set.specs.declared.TheConstants.{CPU_LIMIT}
 use Rattle.tagged_sets.specs.Tagged.{IsOfSet, ranges_of_set, set_of_ranges}
-use Rattle.tagged_sets.specs.RangeSets.{in_of_set}
+use Rattle.tagged_sets.specs.RangeSetLaws.{in_of_set}
 use Rattle.cpu_list.specs.RisingList.{IsRisingList}
 use Rattle.certificate_text.specs.ListWord.{IsListWord}
 use Rattle.certificate_text.proofs.offer.reads_rising.Goals as goal

@@ -15,7 +15,7 @@ returns-in_default c = no_row c.args.rows.now c.args.line.now c.in-Ok.said c.in_
 pub returns-in-Err-Memory : goal.returns-in-Err-Memory
 returns-in-Err-Memory c =
     let row = c.in-Err-Memory.ensures.memory c.in-Err-Memory.field-0-is in
-    row_refused c.row_fault.result c.args.rows.now c.args.line.now row.0 row.1 c.row_fault.ensures
+    row_refused c.no_room_for_row.result c.args.rows.now c.args.line.now row.0 row.1 c.no_room_for_row.ensures
 
 pub returns-in-Err-Fault : goal.returns-in-Err-Fault
 returns-in-Err-Fault c = λ row s. absurd ((rw c.in-Err-Fault.field-0-is at c.in-Err-Fault.ensures.bad) _ refl (RowLine row) s)

@@ -1,5 +1,5 @@
 use Rattle.std.proofs.lemmas.Result.{err_from_is_err_and}
-use Rattle.byte_output.specs.Sending.{SendsFront-more, Writes-then}
+use Rattle.byte_output.specs.SendingLemmas.{SendsFront-more, Writes-then}
 use Rattle.certificate_text.proofs.writing.put_head.Goals as goal
 
 pub returns-in_err-put_header-clause-written : goal.returns-in_err-put_header-clause-written

@@ -4,7 +4,7 @@ use Rattle.cpu_set.specs.Members.{InRange}
 use Rattle.std.proofs.lemmas.List.{get_or_default}
 use Rattle.std.proofs.lemmas.Result.{err_from_is_err_and}
 use Rattle.certificate.specs.RowView.{RowView}
-use Rattle.byte_output.specs.Sending.{HasSent-then, HasSent-fails}
+use Rattle.byte_output.specs.SendingLemmas.{HasSent-then, HasSent-fails}
 use Rattle.certificate_text.proofs.Texts.{hold_next}
 use Rattle.certificate_text.proofs.HeldItems.{hold_more}
 use Rattle.certificate_text.proofs.writing.put_holds.Goals as goal

@@ -3,7 +3,7 @@ use Rattle.std.proofs.lemmas.Result.{err_from_is_err_and}
 use Rattle.certificate_text.specs.CertificateText.{id_at}
 use Rattle.certificate_text.specs.Line.{ShortLine}
 use Rattle.certificate_text.specs.Written.{line_text}
-use Rattle.byte_output.specs.Sending.{sends_part}
+use Rattle.byte_output.specs.SendingLemmas.{sends_part}
 use Rattle.certificate_text.proofs.Pieces.{sent_more}
 use Rattle.certificate_text.proofs.Texts.{id_is}
 use Rattle.certificate_text.proofs.writing.put_members.Goals as goal

@@ -1,6 +1,6 @@
 use Rattle.std.proofs.lemmas.Result.{err_from_is_err_and}
 use Rattle.std.proofs.Common.{rules}
-use Rattle.byte_output.specs.Sending.{SendsFront-more, Writes-then}
+use Rattle.byte_output.specs.SendingLemmas.{SendsFront-more, Writes-then}
 use Rattle.certificate_text.proofs.writing.put_offer.Goals as goal
 
 pub returns-in_err-put_number-clause-written : goal.returns-in_err-put_number-clause-written

@@ -1,5 +1,5 @@
 use Rattle.std.proofs.lemmas.Result.{err_from_is_err_and}
-use Rattle.byte_output.specs.Sending.{SendsFront-more, SendsFront-then, Writes-then}
+use Rattle.byte_output.specs.SendingLemmas.{SendsFront-more, SendsFront-then, Writes-then}
 use Rattle.std.proofs.Common.{append-nil, decimal, rules}
 use Rattle.std.specs.Prelude.{string_bytes}
 use Rattle.std.proofs.KnownBytes.{Appends-trans}

@@ -1,5 +1,5 @@
 use Rattle.std.proofs.lemmas.Result.{err_from_is_err_and}
-use Rattle.byte_output.specs.Sending.{SendsFront-more, SendsFront-then, Writes-then}
+use Rattle.byte_output.specs.SendingLemmas.{SendsFront-more, SendsFront-then, Writes-then}
 use Rattle.certificate_text.proofs.Texts.{text_of-shortage}
 use Rattle.certificate_text.proofs.HeldItems.{on_ok}
 use Rattle.certificate_text.proofs.writing.write_shortage.Goals as goal

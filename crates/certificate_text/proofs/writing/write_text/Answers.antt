@@ -1,5 +1,5 @@
-use Rattle.certificate_text.proofs.writing.write_text.Goals as goal
 use Rattle.std.proofs.lemmas.Result.{on_ok_weaker}
+use Rattle.certificate_text.proofs.writing.write_text.Goals as goal
 
 pub returns-clause-stands : goal.returns-clause-stands
 returns-clause-stands g c =

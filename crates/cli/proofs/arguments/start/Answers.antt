@@ -7,4 +7,4 @@ use Rattle.cli.proofs.arguments.start.Goals as goal
 pub returns : goal.returns
 returns g c =
     let other : error_kind c.in-Err.error ≢ OutOfMemory = search rules in
-    rw c.in-Err.is ((λ short. absurd (other short)), λ _. (refl, refl, rw c.as_bytes.ensures.value at c.tell.ensures))
+    rw c.in-Err.is (((λ short. absurd (other short)), λ _. (refl, refl, rw c.as_bytes.ensures.value at c.tell.ensures)), λ how before held. held)

@@ -1,7 +1,7 @@
 -- The two numbers, each with the words before it.
 use Rattle.std.proofs.Common.{◌++◌, append_assoc, codes, decimal}
 use Rattle.std.proofs.lemmas.Result.{err_from_is_err_and}
-use Rattle.byte_output.specs.Sending.{SendsFront-more, Writes-then}
+use Rattle.byte_output.specs.SendingLemmas.{SendsFront-more, Writes-then}
 use Rattle.cli.proofs.check.put_moves.Goals as goal
 
 pub returns-in_err-put_number : goal.returns-in_err-put_number

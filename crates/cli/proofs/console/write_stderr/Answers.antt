@@ -1,4 +1,4 @@
-use Rattle.program_io.specs.Taking.{TakesFront-written}
+use Rattle.program_io.specs.TakingLemmas.{TakesFront-written}
 use Rattle.cli.proofs.console.write_stderr.Goals as goal
 
 pub returns-else-is_ok : goal.returns-else-is_ok

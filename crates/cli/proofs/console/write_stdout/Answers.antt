@@ -1,5 +1,5 @@
 use Rattle.std.proofs.lemmas.Result.{err_from_is_err_and}
-use Rattle.program_io.specs.Taking.{TakesFront-some}
+use Rattle.program_io.specs.TakingLemmas.{TakesFront-some}
 use Rattle.cli.proofs.console.write_stdout.Goals as goal
 
 pub returns-in_err-print : goal.returns-in_err-print

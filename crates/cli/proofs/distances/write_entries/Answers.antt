@@ -1,7 +1,7 @@
 -- The entries before went out, and at a fault a front of the next one.
 use Rattle.std.proofs.Common.{rules}
 use Rattle.std.proofs.lemmas.Result.{err_from_is_err_and}
-use Rattle.byte_output.specs.Sending.{HasSent-fails, HasSent-then}
+use Rattle.byte_output.specs.SendingLemmas.{HasSent-fails, HasSent-then}
 use Rattle.slit.specs.Table.{distance}
 use Rattle.cli.proofs.Rows.{flat_map-rest}
 use Rattle.cli.specs.SlitAnswer.{entry_text}

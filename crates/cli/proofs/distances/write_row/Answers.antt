@@ -1,6 +1,6 @@
 -- The entries, and then the line feed.
 use Rattle.std.proofs.lemmas.Result.{err_from_is_err_and}
-use Rattle.byte_output.specs.Sending.{SendsFront-more}
+use Rattle.byte_output.specs.SendingLemmas.{SendsFront-more}
 use Rattle.cli.proofs.distances.write_row.Goals as goal
 
 pub returns-in_err-write_entries : goal.returns-in_err-write_entries

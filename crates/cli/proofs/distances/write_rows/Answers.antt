@@ -1,7 +1,7 @@
 -- The rows before went out, and at a fault a front of the next one.
 use Rattle.std.proofs.Common.{rules}
 use Rattle.std.proofs.lemmas.Result.{err_from_is_err_and}
-use Rattle.byte_output.specs.Sending.{HasSent-fails, HasSent-then}
+use Rattle.byte_output.specs.SendingLemmas.{HasSent-fails, HasSent-then}
 use Rattle.cli.proofs.Rows.{flat_map-rest}
 use Rattle.cli.specs.SlitAnswer.{row_text}
 use Rattle.cli.proofs.distances.write_rows.Goals as goal

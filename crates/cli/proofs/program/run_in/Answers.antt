@@ -2,7 +2,7 @@
 use Rattle.cli.proofs.program.run_in.Goals as goal
 
 pub returns-in-None : goal.returns-in-None
-returns-in-None g c = rw c.in-None.is (g.R.Read.remaining c.do_run.new.script, c.do_run.ensures)
+returns-in-None g c = rw c.in-None.is ((g.R.Read.remaining c.do_run.new.script, c.do_run.ensures), λ how before held. held)
 
-pub returns-in-Some : goal.returns-in-Some
-returns-in-Some g c = rw c.in-Some.is (g.R.Read.remaining c.do_run_mirrored.new.script, c.do_run_mirrored.ensures)
+pub returns : goal.returns
+returns g c = rw c.in-Some.is (g.R.Read.remaining c.do_run_mirrored.new.script, c.do_run_mirrored.ensures)

@@ -1,5 +1,5 @@
 use Rattle.std.proofs.Common.{arith, rules}
-use Rattle.byte_output.specs.Digits.{capped_more}
+use Rattle.byte_output.specs.DigitsLemmas.{capped_more}
 use Rattle.cpu_list.proofs.item.read_number.Goals as goal
 
 pub loop-digit-preserved : goal.loop-digit-preserved

@@ -1,4 +1,4 @@
-use Rattle.byte_output.specs.Digits.{IsCapped}
+use Rattle.byte_output.specs.DigitsLemmas.{IsCapped}
 use Rattle.cpu_list.proofs.item.read_number.Given as goal
 
 abbrev pub invariant-loop-digit : goal.invariant-loop-digit

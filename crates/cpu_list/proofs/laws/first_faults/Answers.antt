@@ -1,4 +1,4 @@
-use Rattle.cpu_list.specs.FirstFaults.{none_where_list, first_decides}
+use Rattle.cpu_list.specs.FirstFaultLaws.{none_where_list, first_decides}
 use Rattle.cpu_list.proofs.laws.first_faults.Goals as goal
 
 pub returns-clause-none : goal.returns-clause-none

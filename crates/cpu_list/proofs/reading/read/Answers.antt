@@ -2,10 +2,10 @@ use Rattle.std.proofs.Common.{◌∙◌, ap}
 use Rattle.std.specs.List.{before_first}
 use Rattle.std.proofs.lemmas.List.{take_rest}
 use Rattle.std.specs.FinSet as set
-use Rattle.cpu_set.specs.Pointwise.{contains-empty}
+use Rattle.cpu_set.specs.PointwiseLaws.{contains-empty}
 use Rattle.cpu_list.specs.ListText.{is_comma, item_of}
 use Rattle.cpu_list.specs.FirstFault.{item_fault}
-use Rattle.cpu_list.specs.FirstFaults.{first_decides}
+use Rattle.cpu_list.specs.FirstFaultLaws.{first_decides}
 use Rattle.cpu_list.proofs.ReadSteps.{IsRead-none, IsRead-more, IsRead-fault, IsRead-all}
 use Rattle.cpu_list.proofs.reading.read.Goals as goal
 

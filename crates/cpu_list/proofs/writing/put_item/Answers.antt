@@ -1,7 +1,7 @@
 use Rattle.std.proofs.Common.{◌∷◌, ◌++◌, decimal, append-nil, append_assoc}
 use Rattle.std.proofs.lemmas.Result.{err_from_is_err_and}
 use Rattle.cpu_list.proofs.RangeText.{after_first, range_text-begins, range_text-apart, range_text-same}
-use Rattle.byte_output.specs.Sending.{SendsFront-more, Writes-then}
+use Rattle.byte_output.specs.SendingLemmas.{SendsFront-more, Writes-then}
 use Rattle.cpu_list.proofs.writing.put_item.Goals as goal
 
 pub returns-in_err-put_number : goal.returns-in_err-put_number

@@ -1,5 +1,5 @@
 use Rattle.std.proofs.lemmas.Result.{err_from_is_err_and}
-use Rattle.byte_output.specs.Sending.{HasSent-none, HasSent-then, HasSent-fails}
+use Rattle.byte_output.specs.SendingLemmas.{HasSent-none, HasSent-then, HasSent-fails}
 use Rattle.cpu_list.proofs.SetTexts.{text_whole, text_left}
 use Rattle.cpu_list.proofs.writing.write_list.Goals as goal
 

@@ -1,6 +1,6 @@
 use Rattle.std.proofs.Common.{[], ◌∷◌}
 use Rattle.cpu_set.specs.Members.{cpus}
-use Rattle.cpu_set.specs.ListedSets.{members-listed}
+use Rattle.cpu_set.specs.ListedSetLemmas.{members-listed}
 use Rattle.cpu_set.proofs.laws.worked.Goals as goal
 
 pub returns-clause-members : goal.returns-clause-members

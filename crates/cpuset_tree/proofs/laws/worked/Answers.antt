@@ -1,7 +1,7 @@
 -- What is granted of a set that is written out is computed from its list.
 use Rattle.std.proofs.Common.{◌≡◌, ℕ, ◌==◌, if◌then◌else◌, List, [], ◌∷◌, filter, refl, ap, ◌∙◌}
 use Rattle.std.specs.FinSet as set
-use Rattle.cpu_set.specs.ListedSets.{is_in, count_once, intersection-listed, len-listed}
+use Rattle.cpu_set.specs.ListedSetLemmas.{is_in, count_once, intersection-listed, len-listed}
 use Rattle.cpuset_tree.specs.Effective.{granted}
 use Rattle.cpuset_tree.proofs.laws.worked.Goals as goal
 

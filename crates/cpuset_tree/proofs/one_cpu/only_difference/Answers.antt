@@ -1,5 +1,5 @@
 use Rattle.std.proofs.Common.{sym, ◌∙◌}
-use Rattle.cpu_set.specs.Pointwise.{is_same_decides}
+use Rattle.cpu_set.specs.PointwiseLaws.{is_same_decides}
 use Rattle.cpuset_tree.proofs.NearLemmas.{agree_without}
 use Rattle.cpuset_tree.proofs.one_cpu.only_difference.Goals as goal
 

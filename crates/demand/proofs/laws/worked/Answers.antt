@@ -4,7 +4,7 @@ use Rattle.std.proofs.lemmas.Bool.Decides.{nat_tests}
 use Rattle.std.specs.FinSet as set
 use Rattle.cpu_set.specs.Ids.{is_empty}
 use Rattle.cpu_set.specs.Members.{cpus}
-use Rattle.cpu_set.specs.ListedSets.{len-listed}
+use Rattle.cpu_set.specs.ListedSetLemmas.{len-listed}
 use Rattle.cpu_list.specs.ListText.{item_of, number_of, range_of}
 use Rattle.machine.specs.Nodes.{nodes_of}
 use Rattle.demand.specs.Named.{named}

@@ -6,7 +6,7 @@ use Rattle.std.specs.List.{list_any}
 use Rattle.std.specs.Ordering.{nat_cmp}
 use Rattle.std.specs.FinSet as set
 use Rattle.cpu_set.specs.Ids.{Ids}
-use Rattle.cpu_set.specs.Pointwise.{contains-intersection, same_members}
+use Rattle.cpu_set.specs.PointwiseLaws.{contains-intersection, same_members}
 use Rattle.cpuset_tree.specs.GrantedLemmas.{granted_all, granted_part, granted-empty}
 use Rattle.cpuset_tree.specs.Effective.{granted, effective_cpus}
 use Rattle.kernel_model.specs.KernelState.{KernelState}

@@ -1,6 +1,6 @@
 use Rattle.std.proofs.Common.{map, refl, ap, ◌∙◌, arith}
 use Rattle.serde_json.specs.View.{view}
-use Rattle.machine.specs.Listed.{listed}
+use Rattle.machine.specs.Listed.{cpus_named}
 use Rattle.machine.proofs.CoreSteps.{listed_at, listed_within, listed_last}
 use Rattle.machine.proofs.ItemLaws.{item_view, item_within, item_last}
 use Rattle.machine.proofs.Marking.{ArePlaced-more, ArePlaced-all}
@@ -15,8 +15,8 @@ pub loop-i-preserved : goal.loop-i-preserved
 loop-i-preserved c =
     let is = item_view c.args.items.now c.loop-i.i c.index-items-i.result c.loop-i-test.true c.index-items-i.is in
     let lt = item_within c.args.items.now c.loop-i.i c.loop-i-test.true in
-    ArePlaced-more (map listed (map view c.args.items.now)) c.loop-i.i _ c.cpus_of-cpus.result c.loop-i.places _ c.requires.apart c.loop-i.invariant
-    (listed_within _ _ lt) (c.cpus_of-cpus.ensures ∙ ap listed is ∙ listed_at c.args.items.now c.loop-i.i lt) refl
+    ArePlaced-more (map cpus_named (map view c.args.items.now)) c.loop-i.i _ c.cpus_of-cpus.result c.loop-i.places _ c.requires.apart c.loop-i.invariant
+    (listed_within _ _ lt) (c.cpus_of-cpus.ensures ∙ ap cpus_named is ∙ listed_at c.args.items.now c.loop-i.i lt) refl
     c.mark.ensures.room c.mark.ensures.each
 
 pub returns : goal.returns

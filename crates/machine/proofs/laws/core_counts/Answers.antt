@@ -1,5 +1,5 @@
-use Rattle.machine.specs.CoreCounts.{cores_are_alike, len-whole_in}
-use Rattle.machine.specs.CoreSums.{cores_weigh_alike, cores_are_near}
+use Rattle.machine.specs.CoreCountLaws.{cores_are_alike, len-whole_in}
+use Rattle.machine.specs.CoreSumLaws.{cores_weigh_alike, cores_are_near}
 use Rattle.machine.proofs.laws.core_counts.Goals as goal
 
 pub returns-clause-cores : goal.returns-clause-cores

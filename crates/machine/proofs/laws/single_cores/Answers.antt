@@ -1,4 +1,4 @@
-use Rattle.machine.specs.CoreCounts.{all_are_whole, single_cores_in, single_cpus_of_cores}
+use Rattle.machine.specs.CoreCountLaws.{all_are_whole, single_cores_in, single_cpus_of_cores}
 use Rattle.machine.proofs.laws.single_cores.Goals as goal
 
 pub returns-clause-whole : goal.returns-clause-whole

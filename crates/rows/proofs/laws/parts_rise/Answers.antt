@@ -1,4 +1,4 @@
-use Rattle.rows.specs.PartRising.{parts_rise, parts_are_scaled}
+use Rattle.rows.specs.PartRisingLemmas.{parts_rise, parts_are_scaled}
 use Rattle.rows.proofs.laws.parts_rise.Goals as goal
 
 pub returns : goal.returns

@@ -1,4 +1,4 @@
-use Rattle.rows.specs.PartLimits.{scaled_fits}
+use Rattle.rows.specs.PartLimitLemmas.{scaled_fits}
 use Rattle.rows.proofs.laws.scaled_rows_fit.Goals as goal
 
 pub returns : goal.returns

@@ -1,7 +1,7 @@
 use Rattle.std.proofs.Common.{◌/◌, refl, ap}
 use Rattle.machine.specs.Cores.{cores_in}
 use Rattle.rows.specs.LimitLemmas.{allowed_part, pinned_row_fits, offers_of_distances}
-use Rattle.rows.specs.PartLimits.{scaled_row_fits}
+use Rattle.rows.specs.PartLimitLemmas.{scaled_row_fits}
 use Rattle.rows.proofs.row.scaled_row_of.Goals as goal
 
 pub parts_among-requires-clause-reach : goal.parts_among-requires-clause-reach

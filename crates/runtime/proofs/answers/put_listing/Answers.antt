@@ -1,6 +1,6 @@
 -- The lines before went out, and at a fault a front of the next one.
 use Rattle.std.proofs.lemmas.Result.{err_from_is_err_and}
-use Rattle.byte_output.specs.Sending.{HasSent-then, HasSent-fails}
+use Rattle.byte_output.specs.SendingLemmas.{HasSent-then, HasSent-fails}
 use Rattle.runtime.proofs.Listing.{listing_text-next, Writes-last}
 use Rattle.runtime.proofs.answers.put_listing.Goals as goal
 

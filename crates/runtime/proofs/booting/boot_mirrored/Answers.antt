@@ -1,15 +1,16 @@
 -- A new kernel of which no write was refused is new.
-use Rattle.std.proofs.Common.{[], ap, inr, subst, sym}
+use Rattle.std.proofs.Common.{ap, inr, subst, sym}
 use Rattle.machine.specs.Present.{present}
 use Rattle.machine.specs.Nodes.{nodes_of}
+use Rattle.runtime.specs.MirroredNodes.{IsNotBooted}
 use Rattle.runtime.specs.declared.booting.TheConstants.{FIRST_PID}
 use Rattle.cgroup_tree.specs.Mirrored.{mirrored}
-use Rattle.cgroup_tree.specs.First.{first_mirrored}
+use Rattle.cgroup_tree.specs.FirstLemmas.{first_mirrored}
 use Rattle.cgroup_tree.specs.Site.{Begins, Site}
 use Rattle.runtime.proofs.booting.boot_mirrored.Goals as goal
 
 pub new-kernel-requires-clause-first : goal.new-kernel-requires-clause-first
-new-kernel-requires-clause-first g c = subst (λ (s : Site). Begins s.first c.in_ok-inner.inner) (sym c.requires.site) c.in_ok-inner.ensures
+new-kernel-requires-clause-first g c = subst (λ (s : Site). Begins s.first c.in-Ok.inner) (sym c.requires.site) c.in-Ok.ensures
 
 pub new-kernel-requires-clause-root : goal.new-kernel-requires-clause-root
 new-kernel-requires-clause-root g c = ap (λ (s : Site). s.root) (sym c.requires.site)
@@ -17,17 +18,14 @@ new-kernel-requires-clause-root g c = ap (λ (s : Site). s.root) (sym c.requires
 pub new-kernel-requires-clause-memory : goal.new-kernel-requires-clause-memory
 new-kernel-requires-clause-memory g c = ap (λ (s : Site). s.memory) (sym c.requires.site)
 
-pub new-kernel-requires-clause-unasked : goal.new-kernel-requires-clause-unasked
-new-kernel-requires-clause-unasked g c = subst (λ (s : Site). g.F.GroupFiles.asked c.args.tree.files s.adopt []) (sym c.requires.site) c.requires.unasked
-
-pub returns-in-Ok-clause-boots : goal.returns-in-Ok-clause-boots
-returns-in-Ok-clause-boots g c =
+pub returns-in-Ok-new-clause-boots : goal.returns-in-Ok-new-clause-boots
+returns-in-Ok-new-clause-boots g c =
     let made = c.new-kernel.result in
     let m = c.args.machine in (
       mirrored made.failed made.inner,
       first_mirrored (present m) m.reserved m.online (nodes_of m) FIRST_PID made.failed made.inner c.new-kernel.ensures.failed
-          (rw c.new-kernel.ensures.inner c.in_ok-inner.ensures),
-      c.in-Ok.ensures.opened,
+          (rw c.new-kernel.ensures.inner c.in-Ok.ensures),
+      c.in-Ok-new.ensures.opened,
     )
 
 pub returns-in-Err-clause-err : goal.returns-in-Err-clause-err
@@ -35,12 +33,14 @@ returns-in-Err-clause-err g c =
     let made = c.new-kernel.result in
     let m = c.args.machine in
     let refused = c.in-Err.not_opened.kernel in
-    inr (record {
+    let its : IsNotBooted g.F.GroupFiles.asked g.S.Sited.site m c.in-Err.not_opened.error =
+    record {
       first = mirrored made.failed made.inner;
       its = first_mirrored (present m) m.reserved m.online (nodes_of m) FIRST_PID made.failed made.inner c.new-kernel.ensures.failed
-          (rw c.new-kernel.ensures.inner c.in_ok-inner.ensures);
+          (rw c.new-kernel.ensures.inner c.in-Ok.ensures);
       kernel = mirrored refused.failed refused.inner;
       refused = c.in-Err.ensures.refused;
       files = refused.files;
       mirrored = c.is_mirrored-in-Err.ensures.mirrored;
-    })
+    } in
+    inr (its, rw c.into_files.ensures its.mirrored.made)

@@ -1,5 +1,5 @@
 use Rattle.std.proofs.Common.{inl, inr, None, refl}
-use Rattle.script.specs.Written.{Replies-written}
+use Rattle.script.specs.WrittenLemmas.{Replies-written}
 use Rattle.runtime.specs.Answered.{AnswersCreate}
 use Rattle.runtime.specs.Found.{IsSeen}
 use Rattle.runtime.specs.RefusalLine.{refusal_line}

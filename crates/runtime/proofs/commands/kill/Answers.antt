@@ -1,5 +1,5 @@
 use Rattle.std.proofs.Common.{Ok, Err, refl}
-use Rattle.script.specs.Written.{Replies-written}
+use Rattle.script.specs.WrittenLemmas.{Replies-written}
 use Rattle.runtime.specs.Answered.{AnswersKill}
 use Rattle.runtime.specs.AnswerTexts.{done_line}
 use Rattle.runtime.specs.RefusalLine.{refusal_line}

@@ -1,5 +1,5 @@
 use Rattle.std.proofs.Common.{Ok, Err, refl}
-use Rattle.script.specs.Written.{Replies-written}
+use Rattle.script.specs.WrittenLemmas.{Replies-written}
 use Rattle.runtime.specs.Answered.{AnswersFork}
 use Rattle.runtime.specs.AnswerTexts.{pid_line, of_kernel}
 use Rattle.runtime.specs.RefusalLine.{refusal_line}

@@ -1,7 +1,7 @@
 use Rattle.std.proofs.Common.{◌≡◌, ap, ◌∙◌}
 use Rattle.std.proofs.lemmas.Result.{err_from_is_err_and}
 use Rattle.certificate.specs.RowView.{RowView}
-use Rattle.byte_output.specs.Sending.{SendsFront-more, SendsFront-then, Writes-then}
+use Rattle.byte_output.specs.SendingLemmas.{SendsFront-more, SendsFront-then, Writes-then}
 use Rattle.runtime.proofs.outcomes.put_hold.Goals as goal
 
 pub returns-in_err-put_all : goal.returns-in_err-put_all

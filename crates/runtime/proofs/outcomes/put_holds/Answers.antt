@@ -1,6 +1,6 @@
 use Rattle.std.proofs.Common.{arith}
 use Rattle.std.proofs.lemmas.Result.{err_from_is_err_and}
-use Rattle.byte_output.specs.Sending.{HasSent-then, HasSent-fails}
+use Rattle.byte_output.specs.SendingLemmas.{HasSent-then, HasSent-fails}
 use Rattle.runtime.proofs.ContainerLines.{hold_next}
 use Rattle.runtime.proofs.outcomes.put_holds.Goals as goal
 

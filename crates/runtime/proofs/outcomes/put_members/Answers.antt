@@ -1,7 +1,7 @@
 use Rattle.std.proofs.Common.{ℕ, ◌<◌, get_or, length}
 use Rattle.std.proofs.lemmas.Result.{err_from_is_err_and}
 use Rattle.std.proofs.lemmas.List.{get_or_default}
-use Rattle.byte_output.specs.Sending.{HasSent-then, HasSent-fails}
+use Rattle.byte_output.specs.SendingLemmas.{HasSent-then, HasSent-fails}
 use Rattle.runtime.proofs.ContainerLines.{member_next}
 use Rattle.runtime.proofs.outcomes.put_members.Goals as goal
 

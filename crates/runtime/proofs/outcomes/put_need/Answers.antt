@@ -1,5 +1,5 @@
 use Rattle.std.proofs.lemmas.Result.{err_from_is_err_and}
-use Rattle.byte_output.specs.Sending.{SendsFront-more, SendsFront-then, Writes-then}
+use Rattle.byte_output.specs.SendingLemmas.{SendsFront-more, SendsFront-then, Writes-then}
 use Rattle.runtime.proofs.outcomes.put_need.Goals as goal
 
 pub returns-in_err-put_number : goal.returns-in_err-put_number

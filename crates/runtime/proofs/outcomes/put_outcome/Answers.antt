@@ -1,6 +1,6 @@
 use Rattle.std.proofs.Common.{◌++◌}
 use Rattle.std.proofs.lemmas.Result.{err_from_is_err_and}
-use Rattle.byte_output.specs.Sending.{SendsFront-more, SendsFront-then, Writes-then}
+use Rattle.byte_output.specs.SendingLemmas.{SendsFront-more, SendsFront-then, Writes-then}
 use Rattle.runtime.specs.OutcomeTexts.{end_lines, first_line, last_lines}
 use Rattle.runtime.proofs.NamedLines.{named_in_place, named_told}
 use Rattle.runtime.proofs.outcomes.put_outcome.Goals as goal

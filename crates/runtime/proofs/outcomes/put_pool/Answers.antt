@@ -1,6 +1,6 @@
 use Rattle.std.proofs.Common.{◌++◌, codes}
 use Rattle.std.proofs.lemmas.Result.{err_from_is_err_and}
-use Rattle.byte_output.specs.Sending.{SendsFront-more, Writes-then}
+use Rattle.byte_output.specs.SendingLemmas.{SendsFront-more, Writes-then}
 use Rattle.runtime.specs.AnswerTexts.{set_text}
 use Rattle.runtime.proofs.outcomes.put_pool.Goals as goal
 

@@ -1,5 +1,5 @@
 use Rattle.std.proofs.Common.{Ok, Err, refl}
-use Rattle.script.specs.Written.{Replies-written}
+use Rattle.script.specs.WrittenLemmas.{Replies-written}
 use Rattle.certificate_text.specs.Written.{text_of}
 use Rattle.runtime.specs.Answered.{AnswersCertificate}
 use Rattle.runtime.specs.RefusalLine.{refusal_line}

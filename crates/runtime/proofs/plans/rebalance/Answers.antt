@@ -1,5 +1,5 @@
 use Rattle.std.proofs.Common.{Ok, Err, refl}
-use Rattle.script.specs.Written.{Replies-written}
+use Rattle.script.specs.WrittenLemmas.{Replies-written}
 use Rattle.runtime.specs.Answered.{AnswersRebalance}
 use Rattle.runtime.specs.AnswerTexts.{of_either}
 use Rattle.runtime.specs.OutcomeTexts.{outcome_text}

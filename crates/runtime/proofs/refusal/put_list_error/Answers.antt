@@ -1,6 +1,6 @@
 use Rattle.std.proofs.lemmas.Result.{err_from_is_err_and}
 use Rattle.byte_output.specs.Arguments.{number_text, word_text}
-use Rattle.byte_output.specs.Sending.{SendsFront-more, Writes-then}
+use Rattle.byte_output.specs.SendingLemmas.{SendsFront-more, Writes-then}
 use Rattle.cpu_list.specs.FaultTitle.{list_code}
 use Rattle.runtime.proofs.refusal.put_list_error.Goals as goal
 

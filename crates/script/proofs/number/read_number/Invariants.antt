@@ -1,5 +1,5 @@
 use Rattle.std.proofs.Common.{◌^◌}
-use Rattle.byte_output.specs.Digits.{IsCapped}
+use Rattle.byte_output.specs.DigitsLemmas.{IsCapped}
 use Rattle.script.proofs.number.read_number.Given as goal
 
 abbrev pub invariant-loop-digit : goal.invariant-loop-digit

@@ -1,4 +1,4 @@
-use Rattle.cpu_set.specs.Pointwise.{contains-union}
+use Rattle.cpu_set.specs.PointwiseLaws.{contains-union}
 use Rattle.std.proofs.Common.{ap, arith, get_or, subst, sym, ◌||◌, ◌∙◌}
 use Rattle.std.specs.FinSet as set
 use Rattle.tagged_sets.specs.Tagged.{IsWideOf, tagged}

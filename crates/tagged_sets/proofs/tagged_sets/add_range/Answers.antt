@@ -1,4 +1,4 @@
-use Rattle.cpu_set.specs.Pointwise.{contains-insert}
+use Rattle.cpu_set.specs.PointwiseLaws.{contains-insert}
 use Rattle.std.proofs.Common.{Bool, ap, arith, nat_le, ℕ, ◌&&◌, ◌==◌, ◌||◌, ◌∙◌, ◌≡◌}
 use Rattle.std.proofs.lemmas.Bool.{cases_eq}
 use Rattle.std.proofs.lemmas.Bool.Decides.{nat_tests}

@@ -1,4 +1,4 @@
-use Rattle.cpu_set.specs.SetRanges.{one_fewer, ranges_first}
+use Rattle.cpu_set.specs.SetRangeLaws.{one_fewer, ranges_first}
 use Rattle.std.proofs.Common.{ap, arith, is_ok, rules, true, ◌++◌, ◌≡◌}
 use Rattle.std.proofs.lemmas.List.{take_all}
 use Rattle.tagged_sets.proofs.Left.{added_more, left_from, left_less, still_there}

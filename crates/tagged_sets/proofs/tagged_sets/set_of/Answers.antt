@@ -1,4 +1,4 @@
-use Rattle.cpu_set.specs.Pointwise.{contains-empty}
+use Rattle.cpu_set.specs.PointwiseLaws.{contains-empty}
 use Rattle.tagged_sets.proofs.tagged_sets.set_of.Goals as goal
 
 pub loop-range-init : goal.loop-range-init

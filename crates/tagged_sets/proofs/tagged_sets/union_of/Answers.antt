@@ -1,4 +1,4 @@
-use Rattle.cpu_set.specs.Pointwise.{contains-empty}
+use Rattle.cpu_set.specs.PointwiseLaws.{contains-empty}
 use Rattle.std.proofs.Common.{arith, length, ◌<◌}
 use Rattle.tagged_sets.proofs.Kept.{in_any_more}
 use Rattle.tagged_sets.proofs.tagged_sets.union_of.Goals.{then-add_one, else-add_one}

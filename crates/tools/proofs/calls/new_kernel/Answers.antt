@@ -1,5 +1,5 @@
 -- A new kernel is as it began.
-use Rattle.tools.specs.Start.{begins}
+use Rattle.tools.specs.StartLemmas.{begins}
 use Rattle.tools.proofs.calls.new_kernel.Goals as goal
 
 pub returns : goal.returns

@@ -2,8 +2,8 @@ use Rattle.std.proofs.Common.{sym, ap, ◌∙◌, subst, List}
 use Rattle.certificate.specs.RowView.{RowView}
 use Rattle.certificate.specs.declared.rows.Offer.{Offer}
 use Rattle.transport.specs.SortedArcs.{IsNewSortedArcs}
-use Rattle.transport.proofs.augment.arcs_of_kind.Goals as goal
 use Rattle.twins.specs.KindLaws.{own_offers}
+use Rattle.transport.proofs.augment.arcs_of_kind.Goals as goal
 
 pub returns : goal.returns
 returns c = λ first.

@@ -1,5 +1,5 @@
 use Rattle.std.proofs.Common.{◌≡◌, ◌-◌, ◌<◌, ◌≤◌, IfNone, length, inl, inr, refl, sym, ap, ◌∙◌, subst, arith}
-use Rattle.cpu_set.specs.Pointwise.{contains-empty}
+use Rattle.cpu_set.specs.PointwiseLaws.{contains-empty}
 use Rattle.transport.specs.Blocks.{AreFirstsOfTaken, AreTakenFirsts, AreNoted}
 use Rattle.transport.proofs.Blocks.{taken_firsts_more, taken_firsts_kept, noted_kept}
 use Rattle.transport.proofs.Numbers.{read_number}
@@ -13,9 +13,9 @@ use Rattle.transport.proofs.Labelling.{with_nearest, better_listed, better_more,
 use Rattle.transport.proofs.LeastSlack.{least_some}
 use Rattle.transport.proofs.Steps.{closed, raise_rows, raise_classes, raise_values_fit, raise_prices_fit, nearest_in, step_raised, step_running, step_scanned_on, step_root, step_smaller}
 use Rattle.transport.proofs.Striking.{running_struck, scanned_struck}
+use Rattle.std.proofs.lemmas.Bool.{both_ways}
 use Rattle.transport.proofs.search.find_augmenting_path.Goals as goal
 use Rattle.transport.proofs.search.find_augmenting_path.Goals.{After-note_taken-noted, After-least_slack, In-Some-least, After-update_duals}
-use Rattle.std.proofs.lemmas.Bool.{both_ways}
 
 pub steps-init : goal.steps-init
 steps-init c = record {

@@ -3,8 +3,8 @@ use Rattle.certificate.specs.RowView.{RowView}
 use Rattle.transport.specs.SortedArcs.{IsFoundFreeEnd}
 use Rattle.transport.specs.Weights.{weights}
 use Rattle.transport.proofs.Scanning.{sorted_as, sorted_back}
-use Rattle.transport.proofs.search.nearest_free_class.Goals as goal
 use Rattle.twins.specs.KindLaws.{own_offers}
+use Rattle.transport.proofs.search.nearest_free_class.Goals as goal
 
 pub nearest_free_class-requires : goal.nearest_free_class-requires
 nearest_free_class-requires c =

@@ -1,7 +1,7 @@
 use Rattle.std.proofs.Common.{◌≡◌, ◌≤◌, true, length, MatchOption, refl, sym, ◌∙◌, subst, inl, inr, arith}
 use Rattle.std.proofs.lemmas.Bool.{or_cases, eqb-true}
 use Rattle.std.specs.FinSet as set
-use Rattle.cpu_set.specs.Pointwise.{contains-insert}
+use Rattle.cpu_set.specs.PointwiseLaws.{contains-insert}
 use Rattle.transport.specs.Numbers.{number}
 use Rattle.transport.specs.Blocks.{IsFirstOf}
 use Rattle.transport.proofs.Blocks.{noted_more, noted_past}

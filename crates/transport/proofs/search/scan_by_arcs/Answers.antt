@@ -5,7 +5,7 @@ use Rattle.transport.specs.SortedArcs.{IsSortedArcs}
 use Rattle.twins.specs.Kinds.{offers_of}
 use Rattle.transport.proofs.SortedArcsLemmas.{scanned_same}
 use Rattle.transport.proofs.Labelling.{better_same, labelled_from_first}
-use Rattle.transport.proofs.Scanning.{arcs_can, can_limit, seen}
+use Rattle.transport.proofs.Scanning.{arcs_can, can_limit, after_look}
 use Rattle.transport.proofs.search.scan_by_arcs.Goals as goal
 use Rattle.transport.proofs.search.scan_by_arcs.Goals.{After-limit_of-limit, After-scan_of-scan, In_ok-label_others}
 
@@ -58,5 +58,5 @@ pub returns-clause-seen : goal.returns-clause-seen
 returns-clause-seen c = λ _.
     let i = goal.at.returns-clause-seen c in
     let b = c.in_ok-block_arcs.ensures in
-    seen (weights c.args.instance.now) c.args.assignment.now c.args.tree.now c.args.tree.now c.label_others.new.tree c.args.row c.block_arcs.new.self c.limit_of-limit.result (better_same _ _ _ c.requires.running)
+    after_look (weights c.args.instance.now) c.args.assignment.now c.args.tree.now c.args.tree.now c.label_others.new.tree c.args.row c.block_arcs.new.self c.limit_of-limit.result (better_same _ _ _ c.requires.running)
     (scanned_same (weights c.args.instance.now c.args.row) c.args.sorted_arcs.now c.block_arcs.new.self c.limit_of-limit.result b.arcs b.cursor (c.requires.sought c.limit_of-limit.result (limit i.After-limit_of-limit))) (limit i.After-limit_of-limit) (labelled i.In_ok-label_others (can i.After-scan_of-scan))

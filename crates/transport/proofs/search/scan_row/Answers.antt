@@ -6,7 +6,7 @@ use Rattle.transport.specs.SortedArcs.{IsScanned}
 use Rattle.transport.specs.declared.arcs.SortedArcs.{SortedArcs}
 use Rattle.transport.proofs.SortedArcsLemmas.{scanned_same}
 use Rattle.transport.proofs.Labelling.{better_same}
-use Rattle.transport.proofs.Scanning.{can_limit, seen}
+use Rattle.transport.proofs.Scanning.{can_limit, after_look}
 use Rattle.transport.proofs.Seeking.{further_on}
 use Rattle.transport.proofs.search.scan_row.Goals as goal
 use Rattle.transport.proofs.search.scan_row.Goals.{After-limit_of-limit}
@@ -42,7 +42,7 @@ returns c =
       sorted_arcs = on_ok_weaker c.label_arcs.result (λ _. b.sorted_arcs (weights c.args.instance.now c.args.row) _ _ c.requires.sorted_arcs) c.label_arcs.ensures.passed;
       passed = c.label_arcs.ensures.passed;
       seen = on_ok_weaker c.label_arcs.result
-          (λ n. seen (weights c.args.instance.now) c.args.assignment.now c.args.tree.now c.args.tree.now c.label_arcs.new.tree c.args.row c.block_arcs.new.self c.limit_of-limit.result
+          (λ n. after_look (weights c.args.instance.now) c.args.assignment.now c.args.tree.now c.args.tree.now c.label_arcs.new.tree c.args.row c.block_arcs.new.self c.limit_of-limit.result
           (better_same _ _ _ c.requires.running) (scanned i c.block_arcs.new.self b.arcs b.cursor) (limit i) n)
           c.label_arcs.ensures.labelled;
       further = on_ok_weaker c.label_arcs.result (λ _. further_on c.args.sorted_arcs.now c.block_arcs.new.self b.arcs (omega (arith, b.cursor))) c.label_arcs.ensures.passed;

@@ -1,7 +1,7 @@
 use Rattle.std.proofs.Common.{not, ◌&&◌, sym, ap, ◌∙◌, subst}
 use Rattle.std.specs.FinSet as set
 use Rattle.std.proofs.lemmas.List.{get_or_default}
-use Rattle.cpu_set.specs.Pointwise.{contains-intersection, contains-difference}
+use Rattle.cpu_set.specs.PointwiseLaws.{contains-intersection, contains-difference}
 use Rattle.certificate.specs.Weight.{weight_in}
 use Rattle.twins.specs.AreSpans.{IsPlaceOf}
 use Rattle.twins.specs.IsPart.{is_same_weight}

@@ -1,6 +1,6 @@
 use Rattle.std.proofs.Common.{get_or, arith, sym, ap, ◌∙◌}
 use Rattle.std.specs.FinSet as set
-use Rattle.cpu_set.specs.Pointwise.{contains-empty, contains-union}
+use Rattle.cpu_set.specs.PointwiseLaws.{contains-empty, contains-union}
 use Rattle.certificate.specs.declared.rows.Offer.{Offer}
 use Rattle.twins.proofs.Weights.{at_place, same_with, same_without}
 use Rattle.twins.proofs.alike.cpus_of_offers.Goals as goal

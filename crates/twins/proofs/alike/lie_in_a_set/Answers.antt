@@ -1,7 +1,7 @@
 use Rattle.std.proofs.Common.{ap, arith, get_or, sym, true, ℕ, ◌∙◌, ◌≡◌}
 use Rattle.std.proofs.lemmas.List.{get_or_default}
 use Rattle.std.specs.FinSet as set
-use Rattle.cpu_set.specs.Pointwise.{is_subset-contains}
+use Rattle.cpu_set.specs.PointwiseLaws.{is_subset-contains}
 use Rattle.twins.proofs.AtHand.{of_weight, weighs}
 use Rattle.twins.proofs.alike.lie_in_a_set.Goals as goal
 

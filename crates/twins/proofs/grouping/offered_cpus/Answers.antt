@@ -1,7 +1,7 @@
 use Rattle.std.proofs.Common.{◌<◌, List, sym, ap, ◌∙◌, ◌||◌, is_some, take, take_all, arith}
 use Rattle.std.specs.FinSet as set
 use Rattle.std.proofs.lemmas.List.Folds.{list_any_more}
-use Rattle.cpu_set.specs.Pointwise.{contains-empty, contains-union}
+use Rattle.cpu_set.specs.PointwiseLaws.{contains-empty, contains-union}
 use Rattle.certificate.specs.RowView.{RowView}
 use Rattle.certificate.specs.Weight.{weight, weight_in}
 use Rattle.certificate.specs.declared.rows.Offer.{Offer}
@@ -10,9 +10,9 @@ use Rattle.twins.specs.Kinds.{kind_at}
 use Rattle.twins.proofs.SameOffers.{kind_offers_none}
 use Rattle.twins.proofs.RowCpus.{row_cpus_none, row_cpus_more, row_cpus_same}
 use Rattle.twins.proofs.SettledCpus.{counted_start, counted_more, counted_repeated, counted_once}
+use Rattle.twins.specs.KindLaws.{own_offers}
 use Rattle.twins.proofs.grouping.offered_cpus.Goals as goal
 use Rattle.twins.proofs.grouping.offered_cpus.Goals.{then-kinds-k+in_ok-push, else-kinds-k}
-use Rattle.twins.specs.KindLaws.{own_offers}
 
 pub loop-k-init : goal.loop-k-init
 loop-k-init c = record {

@@ -6,8 +6,8 @@ use Rattle.certificate.specs.RowView.{RowView}
 use Rattle.certificate.specs.Weight.{weight_in}
 use Rattle.certificate.specs.declared.rows.Offer.{Offer}
 use Rattle.twins.proofs.SettledCpus.{settling_next, settling_turned}
-use Rattle.twins.proofs.grouping.split_all.Goals as goal
 use Rattle.twins.specs.KindLaws.{own_offers}
+use Rattle.twins.proofs.grouping.split_all.Goals as goal
 
 pub note-requires-clause-fit : goal.note-requires-clause-fit
 note-requires-clause-fit c =

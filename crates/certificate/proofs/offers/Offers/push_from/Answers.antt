@@ -1,6 +1,6 @@
 use Rattle.certificate.proofs.Offering.{AreTold, told_more}
-use Rattle.certificate.proofs.OffersKept.{cpus_at, length-offers_of, push_is}
-use Rattle.certificate.specs.OffersOf.{offers_of}
+use Rattle.certificate.proofs.OffersKept.{cpus_at, length-as_offers, push_is}
+use Rattle.certificate.specs.OffersOf.{as_offers}
 use Rattle.certificate.specs.RisingOffers.{AreRising}
 use Rattle.certificate.specs.declared.rows.Offer.{Offer}
 use Rattle.cpu_set.specs.Ids.{Ids}
@@ -11,7 +11,7 @@ use Rattle.certificate.proofs.offers.Offers.push_from.Goals as goal
 use Rattle.certificate.proofs.offers.Offers.push_from.Goals.{then-self, else-self}
 
 pub push_from-requires : goal.push_from-requires
-push_from-requires c = omega (arith, length-offers_of c.other.inside.sets, ap length c.other.view_is)
+push_from-requires c = omega (arith, length-as_offers c.other.inside.sets, ap length c.other.view_is)
 
 pub invariant_of-self : goal.invariant_of-self
 invariant_of-self c = rw c.in_err-push_from.ensures.err c.self.invariant
@@ -38,8 +38,8 @@ pub returns-clause-ok : goal.returns-clause-ok
 returns-clause-ok c = λ d.
     let e : ℕ × Ids = (0, set.empty) in
     let o : Offer = record { weight = c.args.weight; cpus = (get_or c.other.inside.sets c.args.at e).1 } in
-    ap offers_of (c.in_ok-push_from.ensures.ok e) ∙ push_is c.self.inside.sets o
+    ap as_offers (c.in_ok-push_from.ensures.ok e) ∙ push_is c.self.inside.sets o
     ∙ ap (λ offers. offers ++ o ∷ []) c.self.view_is
     ∙ ap (λ (s : Ids). c.args.self.now ++ record { weight = c.args.weight; cpus = s } ∷ [])
-    (cpus_at c.other.inside.sets c.args.at e d (omega (arith, length-offers_of c.other.inside.sets, ap length c.other.view_is))
+    (cpus_at c.other.inside.sets c.args.at e d (omega (arith, length-as_offers c.other.inside.sets, ap length c.other.view_is))
     ∙ ap (λ offers. (get_or offers c.args.at d).cpus) c.other.view_is)

@@ -1,6 +1,6 @@
 use Rattle.certificate.proofs.Offering.{AreTold, told_more}
-use Rattle.certificate.proofs.OffersKept.{cpus_at, length-offers_of, push_is}
-use Rattle.certificate.specs.OffersOf.{offers_of}
+use Rattle.certificate.proofs.OffersKept.{cpus_at, length-as_offers, push_is}
+use Rattle.certificate.specs.OffersOf.{as_offers}
 use Rattle.certificate.specs.RisingOffers.{AreRising}
 use Rattle.certificate.specs.declared.rows.Offer.{Offer}
 use Rattle.cpu_set.specs.Ids.{Ids}
@@ -11,7 +11,7 @@ use Rattle.certificate.proofs.offers.Offers.push_without.Goals as goal
 use Rattle.certificate.proofs.offers.Offers.push_without.Goals.{then-self, else-self}
 
 pub push_without-requires : goal.push_without-requires
-push_without-requires c = omega (arith, length-offers_of c.other.inside.sets, ap length c.other.view_is)
+push_without-requires c = omega (arith, length-as_offers c.other.inside.sets, ap length c.other.view_is)
 
 pub invariant_of-self : goal.invariant_of-self
 invariant_of-self c = rw c.in_err-push_without.ensures.err c.self.invariant
@@ -38,9 +38,9 @@ pub returns-clause-ok : goal.returns-clause-ok
 returns-clause-ok c = λ d.
     let e : ℕ × Ids = (0, set.empty) in
     let o : Offer = record { weight = c.args.weight; cpus = set.difference (get_or c.other.inside.sets c.args.at e).1 c.args.without.now } in
-    ap offers_of (c.in_ok-push_without.ensures.ok e) ∙ push_is c.self.inside.sets o
+    ap as_offers (c.in_ok-push_without.ensures.ok e) ∙ push_is c.self.inside.sets o
     ∙ ap (λ offers. offers ++ o ∷ []) c.self.view_is
     ∙ ap (λ (s : Ids). c.args.self.now ++ record { weight = c.args.weight; cpus = s } ∷ [])
     (ap (λ (s : Ids). set.difference s c.args.without.now)
-    (cpus_at c.other.inside.sets c.args.at e d (omega (arith, length-offers_of c.other.inside.sets, ap length c.other.view_is))
+    (cpus_at c.other.inside.sets c.args.at e d (omega (arith, length-as_offers c.other.inside.sets, ap length c.other.view_is))
     ∙ ap (λ offers. (get_or offers c.args.at d).cpus) c.other.view_is))

@@ -1,6 +1,6 @@
 -- The number of localities, and then the rows.
 use Rattle.std.proofs.lemmas.Result.{err_from_is_err_and}
-use Rattle.byte_output.specs.Sending.{SendsFront-more, Writes-then}
+use Rattle.byte_output.specs.SendingLemmas.{SendsFront-more, Writes-then}
 use Rattle.cli.proofs.distances.SlitPrinted.print.Goals as goal
 
 pub returns-in_err-put_number_line : goal.returns-in_err-put_number_line

@@ -1,6 +1,6 @@
 -- The set's text, and then the line feed.
 use Rattle.std.proofs.lemmas.Result.{err_from_is_err_and}
-use Rattle.byte_output.specs.Sending.{SendsFront-more, Writes-then}
+use Rattle.byte_output.specs.SendingLemmas.{SendsFront-more, Writes-then}
 use Rattle.cli.proofs.list.IdSetPrinted.print.Goals as goal
 
 pub returns-in_err-write_list : goal.returns-in_err-write_list

@@ -3,7 +3,7 @@ use Rattle.std.specs.Bool.{one_answer}
 use Rattle.std.specs.Prelude.{bit_and}
 use Rattle.std.specs.Int.{bit_not, w64}
 use Rattle.std.specs.FinSet as set
-use Rattle.cpu_set.specs.Pointwise.{contains-difference}
+use Rattle.cpu_set.specs.PointwiseLaws.{contains-difference}
 use Rattle.cpu_set.specs.SetLaws.{is_subset-Decides}
 use Rattle.cpu_set.proofs.Combined.{AreWords-lanes, set_of_words-lanes, without, without-IsBitwise, zip2-map}
 use Rattle.cpu_set.proofs.id_set.IdSet.is_subset.Goals as goal

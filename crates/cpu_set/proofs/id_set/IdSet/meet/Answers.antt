@@ -1,7 +1,7 @@
 use Rattle.std.proofs.Common.{◌&&◌}
 use Rattle.std.specs.Prelude.{bit_and}
 use Rattle.std.specs.FinSet as set
-use Rattle.cpu_set.specs.Pointwise.{contains-intersection}
+use Rattle.cpu_set.specs.PointwiseLaws.{contains-intersection}
 use Rattle.cpu_set.proofs.Combined.{AreWords-lanes, set_of_words-lanes, and-IsBitwise}
 use Rattle.cpu_set.proofs.id_set.IdSet.meet.Goals as goal
 

@@ -1,7 +1,7 @@
 use Rattle.std.proofs.Common.{◌||◌}
 use Rattle.std.specs.Prelude.{bit_or}
 use Rattle.std.specs.FinSet as set
-use Rattle.cpu_set.specs.Pointwise.{contains-union}
+use Rattle.cpu_set.specs.PointwiseLaws.{contains-union}
 use Rattle.cpu_set.proofs.Combined.{AreWords-lanes, set_of_words-lanes, or-IsBitwise}
 use Rattle.cpu_set.proofs.id_set.IdSet.union.Goals as goal
 

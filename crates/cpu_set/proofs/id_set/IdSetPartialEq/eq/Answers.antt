@@ -1,6 +1,6 @@
 use Rattle.std.specs.Bool.{one_answer}
 use Rattle.std.specs.Prelude.{bit_xor}
-use Rattle.cpu_set.specs.Pointwise.{is_same_decides}
+use Rattle.cpu_set.specs.PointwiseLaws.{is_same_decides}
 use Rattle.cpu_set.proofs.Combined.{AreWords-lanes, set_of_words-lanes, differs, xor-IsBitwise, one_sided, contains-one_sided, same_one_sided}
 use Rattle.cpu_set.proofs.id_set.IdSetPartialEq.eq.Goals as goal
 

@@ -1,4 +1,4 @@
-use Rattle.cpu_set.specs.SetRanges.{ranges_first}
+use Rattle.cpu_set.specs.SetRangeLaws.{ranges_first}
 use Rattle.cpu_set.proofs.ranges.Ranges.of.Goals as goal
 
 pub returns : goal.returns

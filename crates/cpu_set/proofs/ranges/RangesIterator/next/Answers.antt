@@ -1,6 +1,6 @@
 use Rattle.std.proofs.Common.{◌∙◌, sym, ap}
 use Rattle.cpu_set.specs.RangesFrom.{ranges_left}
-use Rattle.cpu_set.specs.SetRanges.{range_found, ranges_next, one_fewer}
+use Rattle.cpu_set.specs.SetRangeLaws.{range_found, ranges_next, one_fewer}
 use Rattle.cpu_set.proofs.ranges.RangesIterator.next.Goals as goal
 
 pub returns-clause-steps : goal.returns-clause-steps

@@ -12,7 +12,7 @@ use Rattle.cpuset_tree.specs.Groups.{has_group}
 use Rattle.cpuset_tree.specs.Effective.{effective, effective_cpus, effective_mems}
 use Rattle.cpuset_tree.specs.TreeChanges.{new_entry}
 use Rattle.cpuset_tree.specs.TreeAnswers.{AddsGroup}
-use Rattle.cpuset_tree.specs.Kept.{IsSound, AreParentsUpTo, AreMarked, mark_of, entry_of_kept, listed, share_of, unrequested, requested_of, top_of}
+use Rattle.cpuset_tree.specs.Kept.{IsSound, AreParentsUpTo, AreMarked, mark_of, entry_of_kept, entries_kept, share_of, unrequested, requested_of, top_of}
 use Rattle.cpuset_tree.proofs.ChangeLemmas.{not_found}
 use Rattle.cpuset_tree.proofs.SoundLemmas.{IsSound-room, IsSound-added, listed-added}
 use Rattle.std.proofs.lemmas.Option.{none-some}
@@ -77,7 +77,7 @@ invariant_of-self-2 c =
           (ap (λ (s : Slab Cgroup). get s key) (sym kept) ∙ c.vacant_key.ensures.vacant)
           c.args.parent refl refl refl
           (ap (λ (s : TreeState). has_group s c.args.parent) c.self.view_is ∙ c.requires.parent)
-          (all_of_parent i.online i.nodes (listed i.groups i.order.items) c.args.parent n
+          (all_of_parent i.online i.nodes (entries_kept i.groups i.order.items) c.args.parent n
           (cpus_given ∙ ap (λ (s : TreeState). unrequested (effective_cpus s c.args.parent)) (sym c.self.view_is))
           (mems_given ∙ ap (λ (s : TreeState). unrequested (effective_mems s c.args.parent)) (sym c.self.view_is)))),
       AreParentsUpTo-added roomy c.insert_reserved.new.self key i.newest_parent c.max-self-inside.result n c.args.parent
@@ -105,12 +105,12 @@ returns-clause-ok c =
     let mems_given : c.in_ok-shares.shares.value.mems ≡ unrequested (effective_mems c.args.self.now c.args.parent) = ap (λ (x : Shares). x.mems) c.in_ok-shares.ensures.ok ∙ c.requires.mems in
     let entry : entry_of_kept n ≡ new_entry g (Some c.args.parent) (string_bytes c.args.name) =
     (λ j. record { group = g; parent = Some c.args.parent; name = string_bytes c.args.name; cpus = (cpus_given j).requested; mems = (mems_given j).requested }) in
-    let groups : listed c.insert_reserved.new.self c.push_front.new.self.items ≡ new_entry g (Some c.args.parent) (string_bytes c.args.name) ∷ listed i.groups i.order.items =
-    ap (listed c.insert_reserved.new.self) c.in_ok-push_front.ensures.items
+    let groups : entries_kept c.insert_reserved.new.self c.push_front.new.self.items ≡ new_entry g (Some c.args.parent) (string_bytes c.args.name) ∷ entries_kept i.groups i.order.items =
+    ap (entries_kept c.insert_reserved.new.self) c.in_ok-push_front.ensures.items
     ∙ listed-added roomy c.insert_reserved.new.self i.order.items i.online i.nodes i.root i.next_serial key n sound updates vacant _ entry in
-    let old : TreeState = record { groups = listed i.groups i.order.items; online = i.online; nodes = i.nodes; next_serial = i.next_serial } in
+    let old : TreeState = record { groups = entries_kept i.groups i.order.items; online = i.online; nodes = i.nodes; next_serial = i.next_serial } in
     let is : old ≡ c.args.self.now = c.self.view_is in
-    subst (λ (s : TreeState). AddsGroup s c.args.parent (string_bytes c.args.name) g (record { groups = listed c.insert_reserved.new.self c.push_front.new.self.items; online = i.online; nodes = i.nodes; next_serial = i.next_serial + 1 })) is
+    subst (λ (s : TreeState). AddsGroup s c.args.parent (string_bytes c.args.name) g (record { groups = entries_kept c.insert_reserved.new.self c.push_front.new.self.items; online = i.online; nodes = i.nodes; next_serial = i.next_serial + 1 })) is
     (record {
       serial = refl;
       fresh = ap is_some (not_found i.groups i.next_serial i.order.items c.self.invariant.0.in_order g (λ m at. absurd (none-some m (sym vacant ∙ at))));

@@ -14,7 +14,7 @@ use Rattle.cpuset_tree.specs.declared.groups.Shares.{Shares}
 use Rattle.cpuset_tree.specs.TreeState.{GroupEntry}
 use Rattle.cpuset_tree.specs.Groups.{root_among}
 use Rattle.cpuset_tree.specs.TreeChanges.{new_entry}
-use Rattle.cpuset_tree.specs.Kept.{IsSound, HasParentAmong, KeepsEffective, entry_of_kept, listed, unrequested, top_of}
+use Rattle.cpuset_tree.specs.Kept.{IsSound, HasParentAmong, KeepsEffective, entry_of_kept, entries_kept, unrequested, top_of}
 use Rattle.cpuset_tree.specs.Effective.{standing, effective}
 use Rattle.cpuset_tree.proofs.KeptLemmas.{listed_at}
 use Rattle.cpuset_tree.proofs.ParentLemmas.{AreParentsUpTo-first}
@@ -87,7 +87,7 @@ returns c =
       root = root;
       serial = refl;
       is = λ i. record {
-        groups = (ap (listed c.insert_reserved.new.self) items ∙ listed_at c.insert_reserved.new.self key [] n changed ∙ ap (λ (e : GroupEntry). e ∷ []) entry) i;
+        groups = (ap (entries_kept c.insert_reserved.new.self) items ∙ listed_at c.insert_reserved.new.self key [] n changed ∙ ap (λ (e : GroupEntry). e ∷ []) entry) i;
         online = c.args.online;
         nodes = c.args.nodes;
         next_serial = c.args.first_serial + 1;

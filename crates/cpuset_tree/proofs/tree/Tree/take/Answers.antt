@@ -4,7 +4,7 @@ use Rattle.std.specs.Prelude.{◌==◌}
 use Rattle.cpuset_tree.specs.TreeState.{TreeState}
 use Rattle.cpuset_tree.specs.Groups.{has_group, is_root, has_children}
 use Rattle.cpuset_tree.specs.TreeChanges.{without_group}
-use Rattle.cpuset_tree.specs.Kept.{IsSound, listed}
+use Rattle.cpuset_tree.specs.Kept.{IsSound, entries_kept}
 use Rattle.cpuset_tree.proofs.CgroupLemmas.{KeptThere, kept_there}
 use Rattle.cpuset_tree.proofs.ChangeLemmas.{listed-removed}
 use Rattle.cpuset_tree.proofs.SoundLemmas.{IsSound-removed}
@@ -25,7 +25,7 @@ invariant_of-self c =
           (ap (λ (s : TreeState). has_children s g) c.self.view_is ∙ c.requires.childless)
           c.try_remove.ensures.updates),
       AreParentsUpTo-removed i.groups c.try_remove.new.self g.key i.newest_parent c.try_remove.ensures.updates c.self.invariant.1,
-      AreMarked-removed i.groups c.try_remove.new.self g.key i.marks.items c.forget_mark.new.marks.items c.try_remove.ensures.updates c.forget_mark.ensures c.self.invariant.2,
+      AreMarked-removed i.groups c.try_remove.new.self g.key i.marks.items c.forget_mark.new.marks.items c.try_remove.ensures.updates c.forget_mark.ensures.others c.self.invariant.2,
     )
 
 pub returns : goal.returns
@@ -37,7 +37,7 @@ returns c =
     let items : c.retain.new.self.items ≡ filter (λ k. not (k == g.key)) i.order.items =
     filter_same _ (λ k. not (k == g.key)) _ (λ x b f' k. search rules) _ _ c.retain.ensures.filtered in
     (λ j. record {
-      groups = (ap (listed c.try_remove.new.self) items ∙ listed-removed i.groups c.try_remove.new.self g there.kept there.at there.same c.try_remove.ensures.updates.others i.next_serial i.order.items c.self.invariant.0.in_order) j;
+      groups = (ap (entries_kept c.try_remove.new.self) items ∙ listed-removed i.groups c.try_remove.new.self g there.kept there.at there.same c.try_remove.ensures.updates.others i.next_serial i.order.items c.self.invariant.0.in_order) j;
       online = i.online;
       nodes = i.nodes;
       next_serial = i.next_serial;

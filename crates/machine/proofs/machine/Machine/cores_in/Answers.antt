@@ -2,7 +2,7 @@ use Rattle.std.proofs.Common.{◌+◌, ◌<◌, ◌≤◌, ℕ, Option, subst, a
 use Rattle.std.proofs.lemmas.Bool.{eqb-true}
 use Rattle.std.specs.FinSet as set
 use Rattle.machine.specs.Cores.{is_core_in}
-use Rattle.machine.specs.CoreCounts.{single_cores_in}
+use Rattle.machine.specs.CoreCountLaws.{single_cores_in}
 use Rattle.machine.proofs.CoreSets.{IsPicked, IsPicked-none, IsPicked-more, added_one, left_out, cores_in-picked}
 use Rattle.machine.proofs.Marking.{IsNext, place, place_rises}
 use Rattle.machine.proofs.machine.Machine.cores_in.Goals.{then-has_core, else-has_core}

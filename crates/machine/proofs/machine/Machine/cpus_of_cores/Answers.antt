@@ -1,7 +1,7 @@
 use Rattle.std.proofs.Common.{◌+◌, ◌<◌, ◌≤◌, ℕ, Option, subst, ap, sym, ◌∙◌, arith}
 use Rattle.std.proofs.lemmas.Bool.{eqb-true}
 use Rattle.std.specs.FinSet as set
-use Rattle.machine.specs.CoreCounts.{single_cpus_of_cores}
+use Rattle.machine.specs.CoreCountLaws.{single_cpus_of_cores}
 use Rattle.machine.proofs.CoreSets.{AreFilled, AreFilled-none, AreFilled-more, AreFilled-all}
 use Rattle.machine.proofs.Lacking.{lacking_cores}
 use Rattle.machine.proofs.Marking.{IsNext, place, place_rises}

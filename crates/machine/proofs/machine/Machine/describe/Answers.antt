@@ -1,7 +1,7 @@
 use Rattle.std.proofs.Common.{◌≡◌, ap, sym, ◌∙◌, length, map}
 use Rattle.std.proofs.lemmas.List.{length-map}
 use Rattle.serde_json.specs.View.{view}
-use Rattle.machine.specs.Listed.{listed}
+use Rattle.machine.specs.Listed.{cpus_named}
 use Rattle.machine.specs.Present.{union_of}
 use Rattle.machine.proofs.CoreLaws.{AreCores-read, lowest_of-long, lowest_of-low}
 use Rattle.machine.proofs.SoundLaws.{IsSound-parts}
@@ -16,9 +16,9 @@ firsts_of-requires c = ap length c.in_ok-cores.ensures.lowest ∙ lowest_of-long
 pub invariant_of-result : goal.invariant_of-result
 invariant_of-result c =
     let items = c.in_ok-items.items.now in
-    let same : c.in_ok-nodes.nodes.items ≡ map listed (map view items) = c.in_ok-nodes.ensures in
+    let same : c.in_ok-nodes.nodes.items ≡ map cpus_named (map view items) = c.in_ok-nodes.ensures in
     let copied : c.in_ok-from_slice.field-0.items ≡ c.in_ok-distances.distances.items = c.in_ok-from_slice.ensures.items ∙ c.as_slice.ensures.value in
-    let count : length c.in_ok-nodes.nodes.items ≡ length items = ap length same ∙ length-map (map view items) listed ∙ length-map items view in
+    let count : length c.in_ok-nodes.nodes.items ≡ length items = ap length same ∙ length-map (map view items) cpus_named ∙ length-map items view in
     let all = c.in_ok-present.ensures.union ∙ ap union_of (sym same) in
     record {
       sound = IsSound-parts _ _ _ _ _ _ _ _

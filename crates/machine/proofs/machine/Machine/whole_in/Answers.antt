@@ -1,6 +1,6 @@
 use Rattle.std.proofs.Common.{ap, sym, ◌∙◌}
 use Rattle.std.proofs.lemmas.Bool.{eqb-true}
-use Rattle.machine.specs.CoreCounts.{all_are_whole}
+use Rattle.machine.specs.CoreCountLaws.{all_are_whole}
 use Rattle.machine.specs.Cores.{cpus_of_cores}
 use Rattle.machine.specs.WholeLaws.{cpus_of_cores-cores_in, whole_in-IsWhole}
 use Rattle.machine.proofs.machine.Machine.whole_in.Goals as goal

@@ -1,6 +1,6 @@
 -- The front that fits, and then the rest.
 use Rattle.std.proofs.Common.{◌≡◌, ◌-◌, drop, length, take, arith, length-drop, take_all}
-use Rattle.program_io.specs.Taking.{TakesFront-written}
+use Rattle.program_io.specs.TakingLemmas.{TakesFront-written}
 use Rattle.program_io.proofs.Taking.{TakesFront-kept, TakesIfRoom-of}
 use Rattle.program_io.proofs.page.Page.tell.Goals as goal
 

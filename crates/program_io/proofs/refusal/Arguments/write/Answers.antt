@@ -1,7 +1,7 @@
 -- The first argument, and then the second.
 use Rattle.std.proofs.Common.{append-nil}
 use Rattle.std.proofs.lemmas.Result.{err_from_is_err_and}
-use Rattle.byte_output.specs.Sending.{SendsFront-more, Writes-then}
+use Rattle.byte_output.specs.SendingLemmas.{SendsFront-more, Writes-then}
 use Rattle.program_io.proofs.refusal.Arguments.write.Goals as goal
 
 pub returns-in_err-put_argument-in-Two : goal.returns-in_err-put_argument-in-Two

@@ -1,7 +1,7 @@
 -- The title, the arguments, and the line feed.
 use Rattle.std.proofs.Common.{◌++◌, List, ℕ, append-nil, codes}
 use Rattle.std.proofs.lemmas.Result.{err_from_is_err_and}
-use Rattle.byte_output.specs.Sending.{SendsFront-more, SendsFront-then, Writes-then}
+use Rattle.byte_output.specs.SendingLemmas.{SendsFront-more, SendsFront-then, Writes-then}
 use Rattle.runtime.specs.RefusalLine.{arguments_of, title_of}
 use Rattle.runtime.proofs.refusal.Refusal.write.Goals as goal
 

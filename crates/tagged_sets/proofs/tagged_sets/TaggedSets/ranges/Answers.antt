@@ -4,7 +4,7 @@ use Rattle.std.proofs.Common.{ap, arith, get_or, length, subst, sym, ◌<◌, �
 use Rattle.std.specs.Prelude.{All, slice_range}
 use Rattle.tagged_sets.proofs.Kept.{IsKept, kept_from, length-tagged, set_at}
 use Rattle.tagged_sets.proofs.Sets.{IsBelow, below_if_of_set, in_range-ranges}
-use Rattle.tagged_sets.specs.RangeSets.{in_of_set}
+use Rattle.tagged_sets.specs.RangeSetLaws.{in_of_set}
 use Rattle.tagged_sets.specs.Tagged.{ranges_of_set}
 use Rattle.std.specs.FinSet as set
 use Rattle.tagged_sets.proofs.tagged_sets.TaggedSets.ranges.Goals as goal

@@ -1,5 +1,0 @@
-use Rattle.kernel_model.specs.FuseLemmas.{fuses_count_writes}
-use Rattle.kernel_model.proofs.laws.fuse.Goals as goal
-
-pub returns : goal.returns
-returns c = fuses_count_writes
