@@ -7,6 +7,9 @@
 //!
 //! A [`DirectHandover`] comes to the same end in another order (make before break): a container takes its target at
 //! once where no rival holds any of it, and gives way only where containers wait for each other in a ring.
+//!
+//! If nobody minds that containers share CPUs while they move, the new sets can be written in any order, and none
+//! of this is needed. To keep containers and to plan for them too, use `node`, which calls this crate.
 #![tactic(auto)]
 
 mod cores;

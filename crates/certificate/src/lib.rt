@@ -12,6 +12,8 @@
 //! whoever asks what a yes of the check means needs no solver and no grammar: the definitions that say it are here, of
 //! sets of CPUs in `cpu_set`, and of sets with a number each in `tagged_sets`.
 //!
+//! To read a certificate from its text use `certificate_text`, and to have one made use `solution`.
+//!
 //! # Proved
 //!
 //! - `Offers` is a list to which offers are added (`push`), also by the ranges of their CPUs (`push_ranges`). Those of

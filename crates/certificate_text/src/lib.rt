@@ -3,6 +3,8 @@
 //!
 //! The grammar is in [`read_text`]'s words; certificates and [`check`] are the crate `certificate`'s, and passed on
 //! here.
+//!
+//! To check a certificate that is a value already, `certificate` is enough.
 #![tactic(auto)]
 
 mod bad_line;

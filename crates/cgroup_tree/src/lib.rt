@@ -1,6 +1,9 @@
 //! A kernel whose writes are made in a cgroup v2 tree too: the modelled kernel decides what each call returns and
 //! changes, and each write that it makes is asked of the tree's files, below a root, before the model changes.
 //!
+//! For a kernel in memory alone use `kernel_model`. If one group is to get some CPUs and nobody asks what else
+//! holds them, a write to its `cpuset.cpus` does it without this crate.
+//!
 //! # Proved
 //!
 //! - `MirroredKernel` meets the trait `Kernel`. Its meaning is the modelled kernel's; writes that never came to the

@@ -1,6 +1,9 @@
 //! The command line of numarun: the words that it is called with, every byte that it reads and every
 //! byte that it writes.
 //!
+//! To run scripts from a program of your own use `script` and `runtime`, which open no file and know no command
+//! line.
+//!
 //! # Proved
 //!
 //! - If the status is not the answer's, it is 1, and what was taken of the answer is a prefix of it. Standard error's

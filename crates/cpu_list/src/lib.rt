@@ -1,4 +1,6 @@
 //! Sets of CPU or node numbers as text, as cpuset(7) writes them under List Format: `0-2,7`.
+//!
+//! For sets that are never text use `cpu_set` alone.
 #![tactic(auto)]
 
 mod fault;

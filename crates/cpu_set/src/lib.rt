@@ -3,6 +3,8 @@
 //! A contract sees an [`IdSet`] as a finite set of numbers, and each call as the set operation of its name.
 //! No call allocates.
 //!
+//! For numbers with no such limit, or sets that are mostly empty, use `BTreeSet` of the standard library.
+//!
 //! # Proved
 //!
 //! - Each call of `IdSet` is the set operation of its name, on finite sets of numbers below `CPU_LIMIT`.

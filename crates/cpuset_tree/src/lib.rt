@@ -2,6 +2,8 @@
 //! has in effect, as the kernel's cgroup-v2 page tells of `cpuset.cpus`, `cpuset.cpus.effective`,
 //! `cpuset.mems` and `cpuset.mems.effective`.
 //!
+//! For a kernel with processes, and with CPUs that go offline, use `kernel_model`, which keeps such a tree.
+//!
 //! # Proved
 //!
 //! - Effective sets are those of the recursion up the path, after any list of calls. The tree keeps them, so that a

@@ -3,6 +3,8 @@
 //!
 //! The numbers come from `linux.resources.cpu` of its config (OCI Runtime Specification 1.0.2,
 //! config-linux.md, "CPU") and from the machine. No call allocates.
+//!
+//! For what several containers ask for together, less the CPUs that they can't have now, use `rows`.
 #![tactic(auto)]
 
 mod allowed;

@@ -3,6 +3,8 @@
 //!
 //! The readers' definitions are lists of checks made of these words, and the laws below say in plain
 //! terms what the word for a loop of checks means.
+//!
+//! A reader that refuses for one cause alone needs none of these words.
 #![tactic(auto)]
 
 mod or_memory;

@@ -1,6 +1,8 @@
 //! JSON text as a value, and the members of its objects: what the readers of JSON files share.
 //!
 //! The text is read by `serde_json`. Contracts name the value by that crate's own reading of the bytes.
+//!
+//! For JSON of any shape use `serde_json` itself.
 #![tactic(auto)]
 
 mod flaw;

@@ -1,6 +1,8 @@
 //! The modelled kernel (cgroup v2 cpusets): groups, processes and CPUs in memory, and the trait [`Kernel`] that says
 //! what each call of a kernel returns and changes.
 //!
+//! If the writes are to reach a real cgroup tree use `cgroup_tree`, a kernel over this one.
+//!
 //! # Proved
 //!
 //! - Each call of the trait `Kernel` is one case of a written meaning. It says what the call answers, in which order it

@@ -7,6 +7,8 @@
 //!
 //! Distances are the relative ones of ACPI's System Locality Information Table: 10 from a node to itself,
 //! 10 to 255 to another, where 255 says that it can't be reached. The two ways may differ.
+//!
+//! For distances alone use `slit`, and for sets of CPUs alone `cpu_set` and `cpu_list`.
 #![tactic(auto)]
 
 mod boot;

@@ -9,6 +9,9 @@
 //! The root gives each class the CPUs that no row holds, at weight 0. It takes what a row lacks, at a weight that no
 //! plan pays. A row's value and a class's price are how far their potentials are below the root's.
 //!
+//! To have a problem solved call `solution`: it begins with `transport`, which is sooner done with most problems,
+//! and comes here if that takes long.
+//!
 //! # Proved
 //!
 //! - All of this is for rows within the limits. The only refusal is an allocation failure.

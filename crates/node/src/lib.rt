@@ -1,6 +1,8 @@
 //! Containers on one NUMA host: their lifecycle (OCI Runtime Specification 1.0.2, runtime.md), and optimal plans
 //! that give them exclusive CPUs, over a kernel that pins them.
 //!
+//! For a plan without containers that run use `solution`, and for commands as text use `runtime`.
+//!
 //! # Proved
 //!
 //! - The state of a node is a plain value, and each call is one relation by cases on what it answers.

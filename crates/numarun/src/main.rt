@@ -1,4 +1,7 @@
 //! numarun, the CPU-pinning part of a container runtime, as a program.
+//!
+//! To call its parts from a program of your own use `cli` for all that it does, or `node` for its containers and
+//! plans.
 #![tactic(auto)]
 
 use cli::{CommandLine, Console, Disk, HostTrees, start};

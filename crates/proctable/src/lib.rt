@@ -1,5 +1,7 @@
 //! The live processes of a modelled kernel: each has a pid, a group, and the first process that it belongs to.
 //!
+//! For the processes of a real host read `/proc`: this table is a model's.
+//!
 //! # Proved
 //!
 //! - A process that has ended keeps its place in the table until it is packed. It is an invariant of the table that at

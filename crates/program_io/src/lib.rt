@@ -1,5 +1,7 @@
 //! What the program reads and writes: inputs that are read whole, why one is refused, and pages of output.
 //!
+//! A program that may just end at its first fault needs no more than `std::io`.
+//!
 //! # Proved
 //!
 //! - A fault of a reader below is told as the refusal made of it (`From`).

@@ -2,6 +2,8 @@
 //! now, by distance.
 //!
 //! Which CPUs a row offers, and what each of them weighs, is decided here and nowhere else.
+//!
+//! If a problem comes as text, `read_problem` of `certificate_text` makes its rows.
 #![tactic(auto)]
 
 mod cache;

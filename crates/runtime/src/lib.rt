@@ -1,5 +1,7 @@
 //! A container runtime that answers the commands of a script: containers on one machine, made of bundles.
 //!
+//! To call a node without commands as text use `node`.
+//!
 //! # Proved
 //!
 //! - A `Runner` is a target of scripts. Each command is answered by the text of what the node's own call answers, and

@@ -1,4 +1,6 @@
 //! Tests that run several crates together, and the conditions that they see to.
+//!
+//! No part of the product. What one crate does alone is tested beside it.
 #![tactic(auto)]
 
 #[cfg(test)]

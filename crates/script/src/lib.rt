@@ -1,5 +1,7 @@
 //! Scripts: lines of commands, and the run of one over whatever answers commands.
 //!
+//! This crate knows no containers: `runtime` has the answers of numarun's commands.
+//!
 //! # Proved
 //!
 //! - A run's contract says what was written for what was read, whatever pieces the bytes come in (`EndsBy`). Each line

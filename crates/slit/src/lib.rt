@@ -9,6 +9,9 @@
 //! Numbers of several bytes are little-endian. The revision and the names in the header are not looked
 //! at, and bytes past the table's length are ignored.
 //!
+//! On a running Linux the same distances stand as text in `/sys/devices/system/node/node*/distance`, which need no
+//! table.
+//!
 //! # Proved
 //!
 //! - The standard's numbers (44, 10, 255) stand in the definitions.

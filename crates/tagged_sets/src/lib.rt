@@ -4,6 +4,8 @@
 //! numbered in turn over the nodes, is kept as a set too, since it is copied faster than it is made of its ranges. A
 //! contract sees [`TaggedSets`] as the list of the tags and the sets.
 //!
+//! For a handful of sets, pairs of a tag and an `IdSet` in a list are simpler.
+//!
 //! # Proved
 //!
 //! - `TaggedSets` is a list of sets with tags, to which sets are added (`push`), also by their ranges (`push_ranges`).

@@ -29,6 +29,8 @@
 //! has come to; and for each block of such classes, which has one of them at least, where searches look at a row's
 //! classes again and again.
 //!
+//! To have a certificate, or a problem solved that takes this method long, call `solution`.
+//!
 //! # Proved
 //!
 //! - All of this is for rows within the limits. The only refusal is an allocation failure.

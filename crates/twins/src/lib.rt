@@ -4,6 +4,8 @@
 //! Two CPUs are twins where in each row both have the same weight (cost), or both have none. Whoever seeks a
 //! plan needs to know only how many CPUs of each class of twins a row holds: [`group`] makes the classes,
 //! and [`deal`] the rows' sets.
+//!
+//! If no two CPUs are alike to the rows, each is a class of its own, and this crate gains nothing.
 #![tactic(auto)]
 
 mod alike;
