@@ -3,11 +3,12 @@ more than 65,536 times, so that as many groups are made: `last_pid.py PROGRAM`. 
 runtime would take minutes over it. Without pids a `create` of a new id leaves nothing, so that 50,000 of them take no memory."""
 
 import os
-import resource
 import sys
 import tempfile
 
 from transcripts import config, place, run
+
+PEAK = os.path.join(os.path.dirname(os.path.abspath(__file__)), "..", "peak.py")
 
 LAST = 4_194_303
 MACHINE = b'{"nodes":["0-3"],"distances":[[10]],"reserved":"0"}'
@@ -30,17 +31,17 @@ MADE = [line for k in range(66_000) for line in (("create a ba", f"pid {k + 2}")
 
 
 def compare(program, lines):
-    """Compares the answers, and tells the most memory of a program so far, in bytes."""
+    """Compares the answers, and tells how much memory the program had at most, in bytes."""
     with tempfile.TemporaryDirectory() as folder:
         os.chdir(folder)
         words = place(MACHINE, None, {"ba": config({"quota": 100000})})
-        done = run(program, words, b"".join(line.encode() + b"\n" for line, _ in lines))
+        done = run(sys.executable, [PEAK, program, *words], b"".join(line.encode() + b"\n" for line, _ in lines))
         os.chdir("/")
     expected = "".join(answer + "\n" for _, answer in lines).encode()
-    if (done.returncode, done.stdout, done.stderr) != (0, expected, b""):
+    if (done.returncode, done.stdout) != (0, expected) or not done.stderr.strip().isdigit():
         sys.exit(f"last pid: status {done.returncode}, the last answers {done.stdout[-300:]}, error {done.stderr[:300]}")
     print(f"last pid: {len(lines)} lines")
-    return resource.getrusage(resource.RUSAGE_CHILDREN).ru_maxrss * 1024
+    return int(done.stderr) * 1024
 
 
 def main(program):
