@@ -9,7 +9,7 @@ from .commands import Ask, Drop, Link, SaveTaken, Say, Steps, Taken, Tell, Unlin
 from .configs import Demand, shared
 from .cpus import NO_CPUS, Cpus, print_list
 from .ledger import Container, Kind, Ledger, Sighting, State, Topic, report
-from .newcomers import refuse
+from .newcomers import refuse, requested_by_untold
 from .placing import demand_of
 from .script import Refused
 from .sightings import are_known, is_same, lives, written
@@ -73,6 +73,10 @@ def follow(turn: Turn, name: str, sighting: Sighting) -> Steps[bool]:
         return False
     if demand.count is None or container.given.count is None:
         return (yield from follow_shared(turn, container, demand))
+    if demand == container.given:
+        ledger.change(name, demand=demand, wanted=None)
+        ledger.settle(Topic.CONTAINER, name, Kind.FEWER, Kind.KEEPS)
+        return False
     ledger.change(name, wanted=demand)
     return True
 
@@ -131,6 +135,10 @@ def mend(turn: Turn, container: Container, sighting: Sighting) -> Steps[None]:
         what = f"{print_list(group.cpus)} in place of {print_list(cpus)}"
     else:
         what = f"nodes {print_list(group.nodes or NO_CPUS)} in place of {print_list(written(ledger, container.nodes))}"
+    if cpus & requested_by_untold(turn):
+        text = f"{ledger.title(name)} has {what}: that is written again once nobody else is left on these who can't be told of"
+        yield from report(ledger, Topic.DRIFT, name, Kind.DRIFT, text)
+        return
     yield from report(ledger, Topic.DRIFT, name, Kind.DRIFT, f"{ledger.title(name)} has {what}: that is written again")
     yield from untell(ledger, name)
     yield Link(name, group.path)

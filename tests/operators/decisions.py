@@ -1,5 +1,5 @@
 """Tries what the agent decides, without a process: whatever comes in whatever order over a plain model of the kernel, of a watched folder and
-of numarun. `decisions.py [CASES]`. Containers come, go and come back, configs flip, break and can't be had, CPUs flap, writes fail, the folder
+of numarun. `decisions.py [CASES [SEED]]`. Containers come, go and come back, configs flip, break and can't be had, CPUs flap, writes fail, the folder
 is away, others write, all of it also between any two commands; and the agent is killed at any of them.
 
 - No container with a process is given up, and nobody's processes are ended.
@@ -34,8 +34,8 @@ from numarun_host.machine import Machine
 
 CASES = int(sys.argv[1]) if len(sys.argv) > 1 else 10_000
 SHORT = CASES * 9 // 10  # so many are made by hypothesis, which makes a case that fails as short as it can
-SEED = 20261128
-LOOKS = 40  # in which who can be served is served: pauses of what failed have doubled before
+SEED = int(sys.argv[2]) if len(sys.argv) > 2 else 20261128
+LOOKS = 12  # in which who can be served is served: pauses of what failed have doubled before
 
 
 def machine() -> Machine:
