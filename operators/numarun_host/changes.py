@@ -136,7 +136,7 @@ def mend(turn: Turn, container: Container, sighting: Sighting) -> Steps[None]:
     else:
         what = f"nodes {print_list(group.nodes or NO_CPUS)} in place of {print_list(written(ledger, container.nodes))}"
     if cpus & requested_by_untold(turn):
-        text = f"{ledger.title(name)} has {what}: that is written again once nobody else is left on these who can't be told of"
+        text = f"{ledger.title(name)} has {what}: another group requests some of these, and can't be told of yet"
         yield from report(ledger, Topic.DRIFT, name, Kind.DRIFT, text)
         return
     yield from report(ledger, Topic.DRIFT, name, Kind.DRIFT, f"{ledger.title(name)} has {what}: that is written again")
