@@ -12,6 +12,7 @@ from .ledger import Container, Kind, Ledger, Sighting, State, Topic, report
 from .newcomers import refuse, requested_by_untold
 from .placing import demand_of
 from .script import Refused
+from .seen import Group
 from .sightings import are_known, is_same, lives, written
 from .slices import is_below
 from .telling import Turn, ask, tell_update
@@ -101,18 +102,52 @@ def follow_shared(turn: Turn, container: Container, demand: Demand) -> Steps[boo
 
 
 def mend_all(turn: Turn) -> Steps[None]:
-    """Looks whether each group requests what it was given, and has that in effect."""
+    """Looks whether each group requests what it was given, and has that in effect. Of those that do not, each gives back first what is another
+    one's."""
     ledger = turn.ledger
-    for name, container in list(ledger.containers.items()) if ledger.has_tree else []:
-        sighting = turn.there[name]
-        if container.cpus is None:
-            continue
-        if sighting.group.cpus != container.cpus or nodes_drifted(ledger, container, sighting):
-            yield from mend(turn, container, sighting)
-        else:
-            ledger.settle(Topic.DRIFT, name)
-        if name in ledger.containers:
-            yield from compare_effective(turn, container, sighting)
+    told = [container for container in ledger.containers.values() if container.cpus is not None] if ledger.has_tree else []
+    drifted = [container for container in told if has_drifted(turn, container)]
+    turn.strays = {container.name: turn.there[container.name].group.cpus for container in drifted if cpus_drifted(turn, container)}
+    for container in drifted:
+        if any(is_in_the_way(turn, container.name, other) for other in drifted):
+            yield from give_back_first(turn, container)
+    for container in drifted:
+        yield from mend(turn, container, turn.there[container.name])
+    for container in told:
+        if container not in drifted:
+            ledger.settle(Topic.DRIFT, container.name)
+        if container.name in ledger.containers:
+            yield from compare_effective(turn, container, turn.there[container.name])
+
+
+def is_still_there(turn: Turn, container: Container) -> bool:
+    """Whether its group is the same, and it is not in the midst of its own end or restart."""
+    group = turn.there[container.name].group
+    return group.inode == container.seen.group.inode and (bool(group.cpus) or lives(turn, container))
+
+
+def cpus_drifted(turn: Turn, container: Container) -> bool:
+    """Whether somebody else wrote its CPUs."""
+    return is_still_there(turn, container) and turn.there[container.name].group.cpus != container.cpus
+
+
+def has_drifted(turn: Turn, container: Container) -> bool:
+    """Whether somebody else wrote its CPUs, or its nodes."""
+    nodes = is_still_there(turn, container) and nodes_drifted(turn.ledger, container, turn.there[container.name])
+    return nodes or cpus_drifted(turn, container)
+
+
+def is_in_the_way(turn: Turn, name: str, other: Container) -> bool:
+    """Whether it requests CPUs by now that the other one was given; those on the pool share them."""
+    on_the_pool = not other.state.is_pinned and not turn.ledger.containers[name].state.is_pinned
+    return name != other.name and not on_the_pool and bool(turn.strays.get(name, NO_CPUS) & (other.cpus or NO_CPUS) - turn.ledger.reserved)
+
+
+def give_back_first(turn: Turn, container: Container) -> Steps[None]:
+    """Brings one to the reserved CPUs."""
+    why = (yield Write(container.seen.group.path, "cpuset.cpus", print_list(turn.ledger.reserved))).why
+    if not why:
+        turn.strays[container.name] = turn.ledger.reserved
 
 
 def nodes_drifted(ledger: Ledger, container: Container, sighting: Sighting) -> bool:
@@ -124,18 +159,13 @@ def nodes_drifted(ledger: Ledger, container: Container, sighting: Sighting) -> b
 
 
 def mend(turn: Turn, container: Container, sighting: Sighting) -> Steps[None]:
-    """Writes again what a group was given, by telling of it anew. At a container's own end, or restart, there is nothing to mend."""
+    """Writes again what a group was given, by telling of it anew, once nobody requests that who is not told of."""
     ledger, name, group = turn.ledger, container.name, sighting.group
-    if group.inode != container.seen.group.inode or (not group.cpus and not lives(turn, container)):
-        return
     if not ledger.is_over("container", name, turn.now):
         return
-    cpus = container.cpus or NO_CPUS
-    if group.cpus != cpus:
-        what = f"{print_list(group.cpus)} in place of {print_list(cpus)}"
-    else:
-        what = f"nodes {print_list(group.nodes or NO_CPUS)} in place of {print_list(written(ledger, container.nodes))}"
-    if cpus & requested_by_untold(turn):
+    what, cpus = what_drifted(ledger, container, group), container.cpus or NO_CPUS
+    others = [container for container in ledger.containers.values() if container.name in turn.strays]
+    if cpus & requested_by_untold(turn) or any(is_in_the_way(turn, other.name, container) for other in others):
         text = f"{ledger.title(name)} has {what}: another group requests some of these, and can't be told of yet"
         yield from report(ledger, Topic.DRIFT, name, Kind.DRIFT, text)
         return
@@ -143,6 +173,7 @@ def mend(turn: Turn, container: Container, sighting: Sighting) -> Steps[None]:
     yield from untell(ledger, name)
     yield Link(name, group.path)
     reply = yield from ask(ledger, Tell(Verb.ADOPT, name, container.given.config, cpus))
+    turn.strays.pop(name, None)
     if reply.fault is None:
         ledger.change(name, seen=dataclasses.replace(sighting, nodes=container.followed))
         turn.there[name] = ledger.containers[name].seen
@@ -151,6 +182,12 @@ def mend(turn: Turn, container: Container, sighting: Sighting) -> Steps[None]:
     del ledger.containers[name]
     yield from refuse(turn, name, dataclasses.replace(sighting, stamp=None), reply)
     yield from report(ledger, Topic.DRIFT, name, Kind.DRIFT, f"{ledger.title(name)}: that can't be written again")
+
+
+def what_drifted(ledger: Ledger, container: Container, group: Group) -> str:
+    if group.cpus != container.cpus:
+        return f"{print_list(group.cpus)} in place of {print_list(container.cpus or NO_CPUS)}"
+    return f"nodes {print_list(group.nodes or NO_CPUS)} in place of {print_list(written(ledger, container.nodes))}"
 
 
 def compare_effective(turn: Turn, container: Container, sighting: Sighting) -> Steps[None]:

@@ -190,7 +190,7 @@ def refuse(turn: Turn, name: str, sighting: Sighting, reply: Reply, cpus: Option
 
 def requested_by_untold(turn: Turn) -> Cpus:
     """The CPUs outside the reserved ones that groups request of which numarun is not told: those that come or can't be told of at the moment,
-    and those with a process that an agent told of before. numarun's answers do not heed them."""
+    and those with a process that an agent told of before."""
     ledger, there = turn.ledger, turn.there
     come = [seen.group.cpus for name, seen in there.items() if name not in ledger.containers and not is_refused(turn, name, seen)]
     blocking = [seen.group.cpus for seen in ledger.blocking.values()]
@@ -207,7 +207,8 @@ def unseen_paths(turn: Turn) -> List[str]:
 
 
 def is_held_up(turn: Turn) -> Steps[bool]:
-    """Whether somebody runs on CPUs who can't be told of at the moment, so that a plan might give these to others; says who."""
+    """Whether somebody runs on CPUs of which numarun does not know, as who can't be told of at the moment, so that a plan might give these to
+    others; says who."""
     ledger, there = turn.ledger, turn.there
     ledger.blocking = {name: seen for name, seen in ledger.blocking.items() if name in there or turn.runs(seen.group.path, seen.group.inode)}
     unseen = unseen_paths(turn)
@@ -216,7 +217,7 @@ def is_held_up(turn: Turn) -> Steps[bool]:
     for path in unseen:
         text = f"{path}: it was told of before, and there is a process in it: no plan until it is told"
         yield from report(ledger, Topic.UNSEEN, path, Kind.UNSEEN, text)
-    return bool(ledger.blocking or unseen)
+    return bool(ledger.blocking or unseen or turn.strays)
 
 
 def has_some(turn: Turn, path: str) -> bool:

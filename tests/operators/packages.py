@@ -9,14 +9,11 @@ import shlex
 import shutil
 import socket
 import subprocess
-import sys
 import time
 
 from sites import IN_FOLDERS, Open, Site
-from trial import OPERATORS, check, end, refuses, told
+from trial import OPERATORS, PROGRAM, case, check, long_case, refuses, scratch, told
 
-PROGRAM = os.path.abspath(os.environ["PROGRAM"])
-SCRATCH = os.environ["SCRATCH"]
 HERE = {**os.environ, "PROGRAM": PROGRAM}
 WORDS = ["--online", "/sys/devices/system/cpu/online", "--program", IN_FOLDERS, "--pause", "0.1"]
 
@@ -29,7 +26,7 @@ def unit_of(prefix):
 
 
 def installed(name):
-    prefix = os.path.join(SCRATCH, name)
+    prefix = scratch(name)
     check("installed", told("install.sh", prefix, env=HERE)[0], 0)
     return prefix
 
@@ -40,6 +37,7 @@ def begun(unit, options, **paths):
     return [paths.get(word, word) for word in shlex.split(line)]
 
 
+@case
 def goes_on():
     """Whatever ends it, it is started again; its program is named by its path, and OPTIONS adds to what is told."""
     prefix = installed("of one's own")
@@ -72,9 +70,10 @@ def unit_block(page):
     return re.sub(r"\s+#.*", "", next(block for block in blocks if "systemctl enable" in block))
 
 
+@case
 def by_the_page():
     """What the pages say to type makes a machine file with cores, and an agent that starts by it before any container ran."""
-    prefix, etc, bin = installed("prefix"), os.path.join(SCRATCH, "etc"), os.path.join(SCRATCH, "bin")
+    prefix, etc, bin = installed("prefix"), scratch("etc"), scratch("bin")
     block = unit_block("README.md")
     check("the first page and install.md say the same", unit_block("install.md"), block)
     os.makedirs(bin)
@@ -97,6 +96,7 @@ def by_the_page():
     check("it starts", (ran.returncode, ran.stdout.decode().count("refused"), ran.stderr), (0, 0, b""))
 
 
+@case
 def notified():
     """systemd is told that it is ready behind the first look, that it works, and that it ends."""
     site = Site()
@@ -114,6 +114,7 @@ def notified():
     check("systemd is told", (status, heard[:2], heard[-1]), (0, [b"READY=1", b"WATCHDOG=1"], b"STOPPING=1"))
 
 
+@case
 def before_any_container():
     """The watched folder comes with the first container."""
     site = Site()
@@ -132,12 +133,13 @@ def dpkg(root, *words):
     return ran.returncode, ran.stderr.decode() if ran.returncode else ""
 
 
+@long_case
 def package():
     if not shutil.which("dpkg-deb"):
         print("the package: passed over, as there is no dpkg-deb")
         return
     refuses("install.sh", "--deb", "/dev/null", says="/dev/null: no folder", env=HERE)
-    folder, root = os.path.join(SCRATCH, "packages"), os.path.join(SCRATCH, "root of its own")
+    folder, root = scratch("packages"), scratch("root of its own")
     os.makedirs(folder)
     status, out, err = told("install.sh", "--deb", folder, env=HERE)
     made = os.listdir(folder)
@@ -175,9 +177,3 @@ def tried(root, path):
     check("dpkg -r", dpkg(root, "-r", "numarun"), (0, ""))
     left = [os.path.join(place, name) for place, _, names in os.walk(root) for name in names if "/var/lib/dpkg" not in place]
     check("nothing is left", left, [])
-
-
-for part in (goes_on, by_the_page, notified, before_any_container, package):
-    if not sys.argv[1:] or part.__name__ in sys.argv[1:]:
-        part()
-end("the unit and the package")
