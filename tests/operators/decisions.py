@@ -25,7 +25,8 @@ from model import RESERVED, Agent, Choices, Killed, World
 from numarun_host.ledger import CONTAINER_TOPICS, State
 from numarun_host.machine import Machine
 
-SHORT, LONG = 3000, 500  # cases of each case below
+SHORT = int(os.environ.get("CASES", "3000"))  # drawn cases of each case below
+LONG = SHORT // 6
 SEED = 20261128
 LOOKS = 12  # in which who can be served is served: at the longest pause of what failed before one is tried again at the second look
 
@@ -133,8 +134,11 @@ def short_days(count: int, seed: int) -> str:
     except ImportError:  # Debian's, where another Python comes first
         return by_debians_python(count, seed)
 
+    few = "CASES" in os.environ  # as where mutants are tried: then no fault is made short
+    phases = [hypothesis.Phase.generate] if few else [hypothesis.Phase.generate, hypothesis.Phase.shrink]
+
     @hypothesis.seed(seed)
-    @hypothesis.settings(max_examples=count, deadline=None, database=None, suppress_health_check=list(hypothesis.HealthCheck))
+    @hypothesis.settings(max_examples=count, deadline=None, database=None, suppress_health_check=list(hypothesis.HealthCheck), phases=phases)
     @hypothesis.given(hypothesis.strategies.binary(max_size=400))
     def whatever_comes(drawn: bytes) -> None:
         fault = fault_of(drawn)
