@@ -173,7 +173,7 @@ def limits() -> None:
     check("nodes", [configs.nodes_named(config_of(mems=text)) for text in ("0-1", "x", 5, "")], [cpus("0-1"), cpus(""), cpus(""), cpus("")])
     present = cpus("0-7")
     check("CPUs", [configs.cpus_allowed(config_of(cpus=text), present) for text in ("1-2", " \n", 5)], [cpus("1-2"), present, present])
-    memory: List[Config] = [{"linux": {"resources": {"memory": {"limit": limit}}}} for limit in (5, 0, -1, True, "5")] + [{}]
+    memory: Sequence[Config] = [*({"linux": {"resources": {"memory": {"limit": limit}}}} for limit in (5, 0, -1, True, "5")), {}]
     check("memory", [configs.memory_asked(config) for config in memory], [5, 0, 0, 0, 0, 0])
     for text in ("[]", "5", "{", "[" * 100000, '"x"', "\0"):
         try:

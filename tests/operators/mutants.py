@@ -41,16 +41,21 @@ COMPUTED: Dict[Type[ast.operator], Type[ast.operator]] = {
 
 @dataclass(frozen=True)
 class Mutant:
-    """A module with one thing that is another one; the place is that of the node in the tree, and the way the so-manieth of what can be done."""
+    """A module with one thing that is another one: the so-manieth node of its tree, in one of the ways in which that can be another one."""
 
     module: str
     line: int
     what: str
-    source: str
+    place: int
+    way: int
 
     @property
     def title(self) -> str:
         return f"{self.module}:{self.line}:{self.what}"
+
+    def source(self) -> str:
+        tree = Replaced(self.place, self.way).visit(ast.parse(text_of(self.module)))
+        return ast.unparse(ast.fix_missing_locations(tree))
 
 
 def is_said(node: ast.AST) -> bool:
@@ -118,10 +123,9 @@ def of_module(module: str, text: str) -> Iterator[Mutant]:
         if not any(begin < line <= end for begin, end in inside):
             continue
         for way, (what, _) in enumerate(others(node)):
-            changed = ast.unparse(ast.fix_missing_locations(Replaced(place, way).visit(ast.parse(text))))
             key = f"{line}:{type(node).__name__}-{what}"
             count[key] = count.get(key, 0) + 1
-            yield Mutant(module, line, f"{type(node).__name__}-{what}" + (f"-{count[key]}" if count[key] > 1 else ""), changed)
+            yield Mutant(module, line, f"{type(node).__name__}-{what}" + (f"-{count[key]}" if count[key] > 1 else ""), place, way)
 
 
 def text_of(module: str) -> str:
@@ -146,7 +150,7 @@ def seen_by(mutant: Optional[Mutant], cases: Sequence[str]) -> str:
     with tempfile.TemporaryDirectory(prefix="mutant-") as folder:
         top = copied(pathlib.Path(folder))
         if mutant:
-            (top / PACKAGE / f"{mutant.module}.py").write_text(mutant.source, encoding="utf-8")
+            (top / PACKAGE / f"{mutant.module}.py").write_text(mutant.source(), encoding="utf-8")
         for case in cases:
             words = [sys.executable, "-B", str(top / "tests/operators/run.py"), "--jobs", "1", case]
             try:
