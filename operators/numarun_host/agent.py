@@ -32,7 +32,7 @@ import subprocess
 import sys
 import tempfile
 import time
-from typing import List, Optional, Sequence
+from typing import Callable, List, Optional, Sequence
 
 from .cgroups import Groups
 from .configs import LEAST, NEAR, PIN, STAY, Pin
@@ -73,14 +73,14 @@ SUBCOMMANDS = ("status", "release", "check-config")
 class Agent:
     """What looks, what decides by it, and what does it, in turn."""
 
-    def __init__(self, eyes: Eyes, hands: Hands, ledger: Ledger, hooks: Optional[Hooks], ending: Ending) -> None:
-        self.eyes, self.hands, self.ledger, self.hooks, self.ending = eyes, hands, ledger, hooks, ending
+    def __init__(self, eyes: Eyes, hands: Hands, ledger: Ledger, hooks: Optional[Hooks], ending: Ending, clock: Callable[[], float]) -> None:
+        self.eyes, self.hands, self.ledger, self.hooks, self.ending, self.clock = eyes, hands, ledger, hooks, ending, clock
 
     def turn(self) -> None:
         """A look, and what comes of it."""
         if self.hooks:
             self.hooks.take()
-        look = self.eyes.look(self.ledger, time.monotonic())
+        look = self.eyes.look(self.ledger, self.clock())
         command, fault = self.hands.pool.take()
         look = dataclasses.replace(look, pool_command=command, pool_fault=fault)
         self.ledger = self.hands.carry_out(decide(self.ledger, look))
@@ -211,7 +211,7 @@ def memory_of(machine: Machine, groups: Optional[Groups]) -> Cpus:
     return nodes if effective is None else nodes & effective or nodes
 
 
-def made(words: argparse.Namespace, machine: Machine, work: str, ending: Ending) -> Agent:
+def made(words: argparse.Namespace, machine: Machine, work: str, ending: Ending, clock: Callable[[], float] = time.monotonic) -> Agent:
     """An agent over this machine, with what one before has left."""
     links = Links(words.cgroup, work) if words.cgroup else None
     groups = Groups(links.root) if links else None
@@ -224,7 +224,7 @@ def made(words: argparse.Namespace, machine: Machine, work: str, ending: Ending)
     ledger = Ledger(settings, memory, taken=record.groups, renewed=record.renewed, before=links.before if links else {})
     hands = Hands(words.program, words.machine, words.slit, work, links, record, Certificates(words.certificates or "", words.keep),
                   words.textfile or "", PoolCommand(words.pool or ""), logger(), ending, words.patience)
-    return Agent(eyes, hands, ledger, hooks, ending)
+    return Agent(eyes, hands, ledger, hooks, ending, clock)
 
 
 def check_config(words: argparse.Namespace) -> int:

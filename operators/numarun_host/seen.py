@@ -12,12 +12,13 @@ from .cpus import NO_CPUS, Cpus
 @dataclass(frozen=True)
 class Told:
     """A container as it was told: its bundle, its folder below what is watched (none of a group of the system itself), its group where
-    the event names it, and which of those that were told under the id it is."""
+    the event names it, which of those that were told under the id it is, and why its state can't be read, where its bundle stands in that."""
 
     bundle: str
     folder: Optional[str]
     group: Optional[str] = None
     turn: int = 0
+    fault: Optional[str] = None
 
     @property
     def is_system(self) -> bool:

@@ -108,7 +108,7 @@ class Folders:
     def names(path: str) -> Optional[List[str]]:
         """The entries that may be containers; nothing where there is no such folder."""
         try:
-            return [name for name in os.listdir(path) if name.split() == [name] and name[0] != "."]
+            return [name for name in os.listdir(path) if name[0] != "."]
         except FileNotFoundError:
             return None
         except OSError as why:
@@ -121,9 +121,12 @@ class Folders:
         except OSError:
             return None
         stamp, told = self.known.get(folder, (None, None))
-        if stamp != (found.st_ino, found.st_mtime_ns) or told is None:
-            bundle = bundle_of(folder)
-            told = Told(bundle, folder) if bundle else None
+        if stamp != (found.st_ino, found.st_mtime_ns) or told is None or told.fault:
+            try:
+                bundle = bundle_of(folder)
+                told = Told(bundle, folder) if bundle else None
+            except Refused as why:
+                told = Told("", folder, fault=str(why))
             self.known[folder] = (found.st_ino, found.st_mtime_ns), told
         return told
 
@@ -132,15 +135,12 @@ Source = Union[Input, Folders]
 
 
 def bundle_of(folder: str) -> Optional[str]:
-    """The bundle that a folder is, or, where it is the state that runc keeps, that it names; or nothing."""
+    """The bundle that a folder is, or, where it is the state that runc keeps, that it names; or nothing. A state that is none is refused."""
     if os.path.isfile(os.path.join(folder, "config.json")):
         return folder
     state = os.path.join(folder, "state.json")
     if os.path.isfile(state):
-        try:
-            labels = at(read_json(state), "config", "labels")
-        except Refused:
-            return None
+        labels = at(read_json(state), "config", "labels")
         for label in labels if isinstance(labels, list) else []:
             if isinstance(label, str) and label.startswith("bundle="):
                 return label[len("bundle="):]

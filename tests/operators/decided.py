@@ -609,7 +609,7 @@ def seen_sets() -> None:
     seen = dataclasses.replace(before.seen, group=dataclasses.replace(before.seen.group, cpus=cpus("2-3")))
 
     def same(**parts: object) -> bool:
-        return sightings.is_same(ledger, before, dataclasses.replace(seen, **parts))  # type: ignore[arg-type]
+        return sightings.is_same(ledger, before, dataclasses.replace(seen, **parts))
 
     other, no_cpus = dataclasses.replace(seen.group, inode=2), dataclasses.replace(seen.group, cpus=cpus(""))
     check("the same", [same(), same(stamp=("t",)), same(group=other), same(stamp=("t",), group=no_cpus), same(group=no_cpus),

@@ -23,6 +23,7 @@ from numarun_host.script import Refused
 COUNT = 200
 SEED = 20261129
 LARGE = 64 << 20
+DEPTHS = (50, 126, 127, 128, 129, 500, *range(940, 996, 4))  # of well-formed members, up to what Python's reader refuses
 STAMPED = re.compile(r"\d{4}-\d\d-\d\dT\d\d:\d\d:\d\d\.\d{3} \S")
 ODD_VALUES: Sequence[object] = (
     None, True, 0, -1, 1 << 63, 10 ** 400, 1.5, float("nan"), float("inf"), "", "x", "\ud800", "a\0b", "a\nb", "../..", "/" * 5000, "9" * 5000, "0-", "4-1",
@@ -132,7 +133,7 @@ def configs() -> None:
     for k, name in enumerate(names):
         site.make_group(name)
         os.makedirs(site.at("g", name))
-        text = odd_text(chance, whole) if k % 10 else deep_member(json.dumps(config_of(section_of(0))).encode(), 100 * (k // 10) + 50)
+        text = odd_text(chance, whole) if k % 10 else deep_member(json.dumps(config_of(section_of(0))).encode(), DEPTHS[k // 10])
         odd_file(chance, site.at("g", name, "config.json"), text)
     lines = run_of(site)
     goes_on(site, lines)
