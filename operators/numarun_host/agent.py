@@ -34,7 +34,7 @@ import tempfile
 import time
 from typing import List, Optional, Sequence
 
-from .cgroups import Groups
+from .cgroups import EACH, Groups
 from .configs import LEAST, NEAR, PIN, STAY, Pin
 from .cpus import Cpus, print_list
 from .decide import answer_to_hook, at_the_end, decide, say_pool_end
@@ -141,7 +141,7 @@ def words_of(told: Sequence[str]) -> argparse.Namespace:
     add_rest(parser)
     add_records(parser)
     words = parser.parse_args(told)
-    words.groups = [group.strip("/") for groups in words.rest for group in groups.split(",") if group.strip("/")]
+    words.groups = [group.strip("/") or EACH for groups in words.rest for group in groups.split(",") if group]
     for option, said in (("--rest", words.groups), ("--release", words.release)):
         if said and not words.cgroup:
             parser.error(f"{option} is of a tree: --cgroup names it")
@@ -179,6 +179,8 @@ def add_containers(parser: argparse.ArgumentParser) -> None:
                        f"some, those whose quota is of whole CPUs, or those that say {PIN}=true (%(default)s)")
     group.add_argument("--home", choices=("free", "none"), default="free", help="which nodes of memory one gets that names none: those where "
                        "there is room for it, or none (%(default)s)")
+    group.add_argument("--lift", action="store_true", help="one that has CPUs of its own runs without the limit (cpu.max) of its group, which "
+                       "gets that again when it has none of its own")
     group.add_argument("--nodes", default="/sys/devices/system/node", metavar="FOLDER", help="where the kernel tells the free memory of each node "
                        "(%(default)s)")
 
@@ -186,7 +188,7 @@ def add_containers(parser: argparse.ArgumentParser) -> None:
 def add_rest(parser: argparse.ArgumentParser) -> None:
     group = parser.add_argument_group("the rest of the machine")
     group.add_argument("--rest", action="append", default=[], metavar="GROUPS", help="groups of the system itself, with commas between them, as "
-                       "system.slice,user.slice,init.scope: they are held on the pool, those that are there")
+                       "system.slice,user.slice,init.scope: they are held on the pool, those that are there; / is each group of the root")
     group.add_argument("--pool-least", default=POOL_LEAST, metavar="N", help="newcomers wait rather than bring the pool below so many CPUs, or "
                        "this part of them; of a part two cores are kept at least (%(default)s)")
     group.add_argument("--pool", metavar="COMMAND", help="run this with the pool's list behind it whenever that has changed")
@@ -201,7 +203,7 @@ def add_records(parser: argparse.ArgumentParser) -> None:
 
 def settings_of(words: argparse.Namespace, machine: Machine, root: Optional[str]) -> Settings:
     return Settings(machine, words.machine, root, Pin(words.pin), words.home == "free", tuple(words.groups),
-                    pool_least_of(words.pool_least, machine), words.pause, words.certificates or "", words.textfile or "", bool(words.pool))
+                    pool_least_of(words.pool_least, machine), words.pause, words.certificates or "", words.textfile or "", bool(words.pool), words.lift)
 
 
 def memory_of(machine: Machine, groups: Optional[Groups]) -> Cpus:
@@ -247,8 +249,7 @@ def main() -> int:
     if subcommand == "check-config":
         return check_config(words)
     if words.release:
-        slices: List[str] = words.groups
-        return release(words.cgroup, words.work, slices)
+        return release(words.cgroup, words.work, [group for group in words.groups if group != EACH])
     machine = Machine(words.machine)
     check_program(words.program)
     ending = Ending()

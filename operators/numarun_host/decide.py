@@ -9,6 +9,7 @@ from .changes import end_those_gone, follow_all, mend_all, undo_late_writes
 from .commands import Ask, Command, LeaveFigures, Level, SaveTaken, Say, Start, Steps
 from .cpus import Cpus, print_list
 from .ledger import Kind, Ledger, State, Topic, report, say_unsaid
+from .lifting import lift_all
 from .machine import Machine
 from .newcomers import is_held_up, take_all
 from .plans import arrange
@@ -46,7 +47,7 @@ def decide(ledger: Ledger, look: Look) -> Steps[Ledger]:
 
 
 def settle_the_rest(turn: Turn) -> Steps[None]:
-    """Lets go of the system's groups that are above pinned containers, and works out a plan, where one is due."""
+    """Lets go of the system's groups that are above pinned containers, works out a plan, where one is due, and lifts limits."""
     ledger = turn.ledger
     if ledger.has_tree:
         yield from let_go(turn)
@@ -54,6 +55,8 @@ def settle_the_rest(turn: Turn) -> Steps[None]:
         ledger.due, ledger.unmade = True, False
     if ledger.due and ledger.is_over("plan", "", turn.now) and not (yield from is_held_up(turn)):
         yield from arrange(turn)
+    if ledger.has_tree:
+        yield from lift_all(turn)
 
 
 def leave(turn: Turn) -> Steps[None]:

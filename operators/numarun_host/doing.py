@@ -13,8 +13,9 @@ import sys
 import time
 from typing import Callable, Dict, List, Optional, Tuple, Type
 
-from .commands import (Answer, Ask, CloseTrial, Command, Drop, KeepCertificate, LeaveFigures, Link, OpenTrial, RunPool, SaveTaken, Say, Start,
-                       Steps, T, Tell, Unlink, Verb, Write)
+from .cgroups import LIMIT, limit_in, read_file
+from .commands import (Answer, Ask, CloseTrial, Command, Drop, KeepCertificate, LeaveFigures, Link, OpenTrial, RunPool, SaveTaken, Say, SetLimit,
+                       Start, Steps, T, Tell, Unlink, Verb, Write)
 from .cpus import print_list
 from .links import CPUS_IN_EFFECT, NODES_IN_EFFECT, Links
 from .log import say
@@ -22,7 +23,7 @@ from .machine import parse_machine
 from .program import Run
 from .records import Certificates, leave_figures
 from .script import Refused
-from .taken import Record, write_file
+from .taken import Record, write_file, write_limit
 
 EFFECTIVE_NOTE = re.compile(r"\S+/cpuset\.cpus\.effective: ")  # the agent compares these itself
 POOL_SECONDS = 30  # that --pool's command has
@@ -104,7 +105,7 @@ class Hands:
         self.trial: Optional[Run] = None
         self.ways: Dict[Type[object], Callable[..., Answer]] = {
             Start: self.start, Ask: self.ask, Tell: self.tell, OpenTrial: self.open_trial, CloseTrial: self.close_trial, Link: self.link,
-            Unlink: self.unlink, Drop: self.drop, Write: self.write, SaveTaken: self.save_taken, Say: self.say,
+            Unlink: self.unlink, Drop: self.drop, Write: self.write, SetLimit: self.set_limit, SaveTaken: self.save_taken, Say: self.say,
             KeepCertificate: self.keep_certificate, LeaveFigures: self.leave_figures, RunPool: self.run_pool}
 
     def do(self, command: Command) -> Answer:
@@ -198,6 +199,13 @@ class Hands:
 
     def write(self, command: Write) -> Answer:
         return Answer(why=write_file(os.path.join(command.path, command.file), command.text))
+
+    def set_limit(self, command: SetLimit) -> Answer:
+        path = os.path.join(command.path, LIMIT)
+        found = read_file(path)
+        if found is None or limit_in(found) != command.before:
+            return Answer(stale=True)
+        return Answer(why=write_limit(path, command.limit))
 
     def save_taken(self, command: SaveTaken) -> Answer:
         if self.links:
