@@ -52,8 +52,8 @@ from .records import KEPT, Certificates
 from .release import release
 from .script import check_program, find_program
 from .sources import Folders, Input, Source
+from .reports import status_of
 from .status import main as say_status
-from .status import status_of
 from .taken import Record, read_record, whole_machine
 
 EXAMPLE = f"""what a container says of itself, by an annotation, or a variable of its process's environment:

@@ -98,9 +98,10 @@ class Write:
 
 @dataclass(frozen=True)
 class SetLimit:
-    """Writes the limit of a group, or that it has none, where it still has the one before."""
+    """Writes the limit of a group, or that it has none, where that is still this group and has the limit before."""
 
     path: str
+    inode: int
     limit: Optional[Limit]
     before: Optional[Limit]
 
@@ -134,12 +135,22 @@ class Say:
 
 @dataclass(frozen=True)
 class KeepCertificate:
+    """Keeps a certificate, unless it is the last one again; the file is answered where it is another one."""
+
     lines: Tuple[str, ...]
 
 
 @dataclass(frozen=True)
 class LeaveFigures:
     figures: Mapping[str, float]
+
+
+@dataclass(frozen=True)
+class LeaveState:
+    """Keeps what the agent knows for who asks when none runs."""
+
+    state: Mapping[str, object]
+    ended: bool = False
 
 
 @dataclass(frozen=True)
@@ -150,7 +161,7 @@ class RunPool:
 
 
 Command = Union[Start, Ask, Tell, OpenTrial, CloseTrial, Link, Unlink, Drop, Write, SetLimit, SaveTaken, Say, KeepCertificate, LeaveFigures,
-                RunPool]
+                LeaveState, RunPool]
 
 
 @dataclass(frozen=True)

@@ -209,6 +209,7 @@ class Ledger:
     counts: Dict[str, int] = field(default_factory=lambda: dict.fromkeys(COUNTERS, 0))
     times: Dict[str, float] = field(default_factory=lambda: dict.fromkeys(TIMES, 0.0))
     looked: Optional[float] = None  # when it looked last
+    certificate: str = ""           # the file of the last one that was kept
 
     def copy(self) -> Ledger:
         """Another one, of which each part can be changed by itself."""

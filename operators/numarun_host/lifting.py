@@ -8,6 +8,7 @@ from typing import Iterator, Optional, Tuple
 
 from .commands import SaveTaken, Say, SetLimit, Steps, Taken
 from .configs import Limit
+from .cpus import NO_CPUS
 from .ledger import Container, Kind, Ledger, Topic, report
 from .seen import Group
 from .telling import Turn
@@ -46,7 +47,9 @@ def held(turn: Turn) -> Iterator[Tuple[Container, Group, Taken]]:
 
 
 def is_free_of_limits(ledger: Ledger, container: Container) -> bool:
-    return ledger.settings.lift and container.state.has_had_a_plan
+    """Whether one is lifted that has a limit: it has CPUs of its own by now, and none besides."""
+    cpus = container.cpus or NO_CPUS
+    return ledger.settings.lift and container.state.has_had_a_plan and bool(cpus) and not cpus & ledger.reserved
 
 
 def keep(turn: Turn, container: Container, limit: Optional[Limit]) -> None:
@@ -60,22 +63,24 @@ def keep(turn: Turn, container: Container, limit: Optional[Limit]) -> None:
 
 def lift(turn: Turn, container: Container, limit: Limit) -> Steps[None]:
     text = f"lift {turn.ledger.title(container.name)}: no limit in place of {limit[0]} {limit[1]}, since it has CPUs of its own"
-    yield from set_limit(turn, container, SetLimit(container.seen.group.path, None, limit), text)
+    yield from set_limit(turn, container, SetLimit(container.seen.group.path, container.seen.group.inode, None, limit), text)
 
 
 def give_back(turn: Turn, container: Container, group: Group, limit: Limit) -> Steps[None]:
     """Lets a group have its limit again, if nobody gave it another one since."""
     if group.limit is None:
         text = f"limit {turn.ledger.title(container.name)}: {limit[0]} {limit[1]} again"
-        if not (yield from set_limit(turn, container, SetLimit(group.path, limit, None), text)):
+        if not (yield from set_limit(turn, container, SetLimit(group.path, group.inode, limit, None), text)):
             return
     keep(turn, container, None)
 
 
 def set_limit(turn: Turn, container: Container, command: SetLimit, text: str) -> Steps[bool]:
-    """Writes it, and says so; whether that was done. Where the group has another limit by now, the next look finds it."""
+    """Writes it, and says so; whether that was done. Where the group has another limit by now, the next look finds that."""
     ledger, name = turn.ledger, container.name
     answer = yield command
+    if answer.stale:
+        keep(turn, container, None)
     if answer.why:
         ledger.begin_pause("limit", name, turn.now)
         yield from report(ledger, Topic.LIMIT, name, Kind.FAILED, answer.why)
@@ -89,7 +94,7 @@ def set_limit(turn: Turn, container: Container, command: SetLimit, text: str) ->
 
 def give_back_at_the_end(turn: Turn, container: Container) -> Steps[None]:
     """The same of a container that is gone, whose group may go on without it."""
-    path = container.seen.group.path
-    taken = turn.ledger.taken.get(path)
-    if taken and taken.limit and not turn.came_anew(container.seen.group):
-        yield SetLimit(path, taken.limit, None)
+    group = container.seen.group
+    taken = turn.ledger.taken.get(group.path)
+    if taken and taken.limit and taken.inode == group.inode:
+        yield SetLimit(group.path, group.inode, taken.limit, None)
