@@ -68,11 +68,10 @@ def lift(turn: Turn, container: Container, limit: Limit) -> Steps[None]:
 
 def give_back(turn: Turn, container: Container, group: Group, limit: Limit) -> Steps[None]:
     """Lets a group have its limit again, if nobody gave it another one since."""
-    if True:
+    if group.limit is None:
         text = f"limit {turn.ledger.title(container.name)}: {limit[0]} {limit[1]} again"
         if not (yield from set_limit(turn, container, SetLimit(group.path, group.inode, limit, None), text)):
             return
-    keep(turn, container, None)
 
 
 def set_limit(turn: Turn, container: Container, command: SetLimit, text: str) -> Steps[bool]:
