@@ -68,14 +68,13 @@ def lift(turn: Turn, container: Container, limit: Limit) -> Steps[None]:
 
 def give_back(turn: Turn, container: Container, group: Group, limit: Limit) -> Steps[None]:
     """Lets a group have its limit again, if nobody gave it another one since."""
-    if group.limit is None:
-        text = f"limit {turn.ledger.title(container.name)}: {limit[0]} {limit[1]} again"
-        if not (yield from set_limit(turn, container, SetLimit(group.path, group.inode, limit, None), text)):
-            return
+    text = f"limit {turn.ledger.title(container.name)}: {limit[0]} {limit[1]} again"
+    if (yield from set_limit(turn, container, SetLimit(group.path, group.inode, limit, None), text)):
+        keep(turn, container, None)
 
 
 def set_limit(turn: Turn, container: Container, command: SetLimit, text: str) -> Steps[bool]:
-    """Writes it, and says so; whether that was done. Where the group has another limit by now, the next look finds that."""
+    """Writes it, and says so; whether that was done. Where the group has another limit by now, that is not lifted, and the next look finds it."""
     ledger, name = turn.ledger, container.name
     answer = yield command
     if answer.stale:
