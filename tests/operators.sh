@@ -2,7 +2,8 @@
 # Tries the scripts of operators/ and benches/, and a quick look: types, a quick look, machine files of what hwloc tells, pictures of
 # plans and shortages, what is explained of them, where a container would go, the agent over the program in plain folders, beside
 # the system's own groups, where something changes, at its edges, and killed again and again, what it decides over a plain model, homes,
-# hooks, the installation and the package, the pages and what they say to type, the comparison with other ways to place, the count of
+# hooks, limits that are lifted, what `status` says, files of options, all groups of a root, the cost of a look, the installation and the
+# package, dashboards, the pages and what they say to type, the comparison with other ways to place, the count of
 # moves, and the man page. What a machine lacks for it is passed over, and named. They run in lanes side by side. PROGRAM in the
 # environment is run in place of the one that this builds; TESTS are the files of operators/ that are run, in place of all.
 set -euo pipefail
@@ -12,13 +13,18 @@ scratch=$(mktemp -d) work=$scratch
 . "$top/tests/build-preloads.sh"
 export PROGRAM=$program GROUPS_LIBRARY=$scratch/groups.so
 lanes=("looks hwloc pictures explains dry-runs rests hooks installs packages pages peers moves manual lacking" "agents edges" "changes homes" "troubles restarts"
-    "kills decisions")
+    "kills decisions" "lifts states configured layers every-group idle dashboards")
 [ -z "${TESTS:-}" ] || lanes=("$TESTS")
 
-# Debian's hypothesis, by which decisions.py makes its cases: no lane installs anything, since two at once would stand in each other's way.
-if ! /usr/bin/python3 -c "import hypothesis" 2>/dev/null; then
-    echo "operators: there is no hypothesis; installing python3-hypothesis by apt-get" >&2
-    { apt-get -qq update && apt-get -qq install -y python3-hypothesis; } >/dev/null 2>&1 || true
+# Debian's hypothesis, by which decisions.py makes its cases, and what makes the package: no lane installs anything, since two at once would
+# stand in each other's way.
+lacking=()
+/usr/bin/python3 -c "import hypothesis" 2>/dev/null || lacking+=(python3-hypothesis)
+command -v dh_python3 >/dev/null || lacking+=(debhelper dh-python)
+command -v lintian >/dev/null || lacking+=(lintian)
+if [ ${#lacking[@]} -gt 0 ]; then
+    echo "operators: installing ${lacking[*]} by apt-get" >&2
+    { apt-get -qq update && apt-get -qq install -y --no-install-recommends "${lacking[@]}"; } >/dev/null 2>&1 || true
 fi
 
 # Types and names: what Debian's mypy and pyflakes say of the package, and of the programs over it.
