@@ -16,21 +16,38 @@ FILE_BYTES = 1 << 16
 LIMIT = "cpu.max"
 EACH = "/"
 READ = ("cpuset.cpus", "cpuset.mems", "cpuset.cpus.effective", LIMIT, "cgroup.events")
-Texts = Tuple[Optional[str], ...]
+PIECE = 4096  # what most files of a group fit into
+Raw = Tuple[Optional[bytes], ...]
 
 
-def read_file(path: str) -> Optional[str]:
-    """A file of a group, or nothing."""
+def read_raw(path: str) -> Optional[bytes]:
+    """The bytes of a file of a group, or nothing."""
     try:
         file = os.open(path, os.O_RDONLY | os.O_CLOEXEC)
     except (OSError, ValueError):
         return None
     try:
-        return os.read(file, FILE_BYTES).decode().strip()
-    except (OSError, ValueError):
+        found = piece = os.read(file, PIECE)
+        while len(piece) == PIECE and len(found) < FILE_BYTES:
+            piece = os.read(file, PIECE)
+            found += piece
+        return found
+    except OSError:
         return None
     finally:
         os.close(file)
+
+
+def text_in(found: Optional[bytes]) -> Optional[str]:
+    try:
+        return None if found is None else found.decode().strip()
+    except ValueError:
+        return None
+
+
+def read_file(path: str) -> Optional[str]:
+    """A file of a group, or nothing."""
+    return text_in(read_raw(path))
 
 
 def set_in(text: Optional[str]) -> Optional[Cpus]:
@@ -62,7 +79,7 @@ class Groups:
 
     def __init__(self, root: str) -> None:
         self.root = root
-        self.last: Dict[str, Tuple[int, Texts, Group]] = {}
+        self.last: Dict[str, Tuple[int, Raw, Group]] = {}
         self.looked_at: Set[str] = set()
 
     def look_at(self, path: str) -> Union[Group, NoGroup]:
@@ -71,15 +88,16 @@ class Groups:
             inode = os.stat(path).st_ino
         except (OSError, ValueError):
             return NoGroup(f"{path}: no such group")
-        texts: Texts = tuple(read_file(f"{path}/{file}") for file in READ)
+        raw: Raw = tuple([read_raw(f"{path}/{file}") for file in READ])
+        before = self.last.get(path)
+        if before and before[0] == inode and before[1] == raw:
+            return before[2]
+        texts = tuple(map(text_in, raw))
         if texts[0] is None and not os.path.lexists(f"{path}/{READ[0]}"):
             return NoGroup(f"{path}: no cpuset.cpus in it", folder=True)
-        before = self.last.get(path)
-        if before and before[:2] == (inode, texts):
-            return before[2]
         cpus, nodes, effective = (set_in(text) for text in texts[:3])
         group = Group(path, inode, cpus or NO_CPUS, nodes, effective, limit_in(texts[3]), populated_in(texts[4]), (texts[0], texts[1]))
-        self.last[path] = inode, texts, group
+        self.last[path] = inode, raw, group
         return group
 
     def end_look(self) -> None:
@@ -110,11 +128,11 @@ class Groups:
         tops = tuple(f"{self.root}/{name}" for name in slices)
         found: Set[str] = set()
         for path in paths:
-            above = os.path.dirname(path)
+            above = path.rpartition("/")[0]
             while above.startswith(tops) and above not in found:
                 if any(above == top or above.startswith(f"{top}/") for top in tops):
                     found.add(above)
-                above = os.path.dirname(above)
+                above = above.rpartition("/")[0]
         return found
 
 

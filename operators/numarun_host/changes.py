@@ -63,6 +63,8 @@ def follow_all(turn: Turn) -> Steps[bool]:
 def follow(turn: Turn, name: str, sighting: Sighting) -> Steps[bool]:
     ledger = turn.ledger
     before = ledger.containers[name].seen
+    if before is sighting:
+        return False
     if before.asks == sighting.asks or sighting.told.is_system:
         if before.group is not sighting.group:
             ledger.change(name, seen=sighting)
