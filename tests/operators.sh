@@ -11,10 +11,15 @@ trap 'rm -rf "$work"' EXIT
 export PROGRAM=$program GROUPS_LIBRARY=$work/groups.so
 read -ra named <<<"${TESTS:-} $*"
 
-# Debian's hypothesis, by which decisions.py makes its cases: no case installs anything, since two at once would stand in each other's way.
-if ! /usr/bin/python3 -c "import hypothesis" 2>/dev/null; then
-    echo "operators: there is no hypothesis; installing python3-hypothesis by apt-get" >&2
-    { apt-get -qq update && apt-get -qq install -y --no-install-recommends python3-hypothesis; } >/dev/null 2>&1 || true
+# Debian's hypothesis, by which decisions.py makes its cases, and what makes the package: no case installs anything, since two at once would stand
+# in each other's way.
+lacking=()
+/usr/bin/python3 -c "import hypothesis" 2>/dev/null || lacking+=(python3-hypothesis)
+command -v dh_python3 >/dev/null || lacking+=(debhelper dh-python)
+command -v lintian >/dev/null || lacking+=(lintian)
+if [ ${#lacking[@]} -gt 0 ]; then
+    echo "operators: installing ${lacking[*]} by apt-get" >&2
+    { apt-get -qq update && apt-get -qq install -y --no-install-recommends "${lacking[@]}"; } >/dev/null 2>&1 || true
 fi
 [ ${#named[@]} -gt 0 ] || bash "$top/tests/operators/types.sh"
 python3 -B "$top/tests/operators/run.py" "${named[@]}"

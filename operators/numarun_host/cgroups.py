@@ -13,22 +13,41 @@ from .seen import Group, NoGroup
 
 CONFIG_BYTES = 1 << 20
 FILE_BYTES = 1 << 16
-READ = ("cpuset.cpus", "cpuset.mems", "cpuset.cpus.effective", "cpu.max", "cgroup.events")
-Texts = Tuple[Optional[str], ...]
+LIMIT = "cpu.max"
+EACH = "/"
+READ = ("cpuset.cpus", "cpuset.mems", "cpuset.cpus.effective", LIMIT, "cgroup.events")
+PIECE = 4096  # what most files of a group fit into
+Raw = Tuple[Optional[bytes], ...]
 
 
-def read_file(path: str) -> Optional[str]:
-    """A file of a group, or nothing."""
+def read_raw(path: str) -> Optional[bytes]:
+    """The bytes of a file of a group, or nothing."""
     try:
         file = os.open(path, os.O_RDONLY | os.O_CLOEXEC)
     except (OSError, ValueError):
         return None
     try:
-        return os.read(file, FILE_BYTES).decode().strip()
-    except (OSError, ValueError):
+        found = piece = os.read(file, PIECE)
+        while len(piece) == PIECE and len(found) < FILE_BYTES:
+            piece = os.read(file, PIECE)
+            found += piece
+        return found
+    except OSError:
         return None
     finally:
         os.close(file)
+
+
+def text_in(found: Optional[bytes]) -> Optional[str]:
+    try:
+        return None if found is None else found.decode().strip()
+    except ValueError:
+        return None
+
+
+def read_file(path: str) -> Optional[str]:
+    """A file of a group, or nothing."""
+    return text_in(read_raw(path))
 
 
 def set_in(text: Optional[str]) -> Optional[Cpus]:
@@ -50,12 +69,17 @@ def populated_in(text: Optional[str]) -> Optional[bool]:
     return found[1] == "1" if found else None
 
 
+def is_partition(text: Optional[str]) -> bool:
+    """Whether a group is the root of a partition, also one that is invalid at the moment."""
+    return (text or "").startswith(("root", "isolated"))
+
+
 class Groups:
     """The groups of a tree. What has not changed since the last look is the same object."""
 
     def __init__(self, root: str) -> None:
         self.root = root
-        self.last: Dict[str, Tuple[int, Texts, Group]] = {}
+        self.last: Dict[str, Tuple[int, Raw, Group]] = {}
         self.looked_at: Set[str] = set()
 
     def look_at(self, path: str) -> Union[Group, NoGroup]:
@@ -64,15 +88,16 @@ class Groups:
             inode = os.stat(path).st_ino
         except (OSError, ValueError):
             return NoGroup(f"{path}: no such group")
-        texts: Texts = tuple(read_file(f"{path}/{file}") for file in READ)
+        raw: Raw = tuple([read_raw(f"{path}/{file}") for file in READ])
+        before = self.last.get(path)
+        if before and before[0] == inode and before[1] == raw:
+            return before[2]
+        texts = tuple(map(text_in, raw))
         if texts[0] is None and not os.path.lexists(f"{path}/{READ[0]}"):
             return NoGroup(f"{path}: no cpuset.cpus in it", folder=True)
-        before = self.last.get(path)
-        if before and before[:2] == (inode, texts):
-            return before[2]
         cpus, nodes, effective = (set_in(text) for text in texts[:3])
         group = Group(path, inode, cpus or NO_CPUS, nodes, effective, limit_in(texts[3]), populated_in(texts[4]), (texts[0], texts[1]))
-        self.last[path] = inode, texts, group
+        self.last[path] = inode, raw, group
         return group
 
     def end_look(self) -> None:
@@ -92,16 +117,22 @@ class Groups:
         except OSError:
             return ()
 
+    def named(self, slices: Tuple[str, ...]) -> Tuple[str, ...]:
+        """The groups that --rest names, below the root: `/` names each one of the root that is no partition of its own."""
+        every = self.children(self.root) if EACH in slices else ()
+        each = tuple(name for name in every if not is_partition(read_file(f"{self.root}/{name}/cpuset.cpus.partition")))
+        return tuple(dict.fromkeys(group for name in slices for group in (each if name == EACH else (name,))))
+
     def ways_to(self, slices: Tuple[str, ...], paths: FrozenSet[str]) -> Set[str]:
         """The groups of the system, among these and below them, that are above one of these paths."""
         tops = tuple(f"{self.root}/{name}" for name in slices)
         found: Set[str] = set()
         for path in paths:
-            above = os.path.dirname(path)
+            above = path.rpartition("/")[0]
             while above.startswith(tops) and above not in found:
                 if any(above == top or above.startswith(f"{top}/") for top in tops):
                     found.add(above)
-                above = os.path.dirname(above)
+                above = above.rpartition("/")[0]
         return found
 
 

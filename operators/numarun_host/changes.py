@@ -9,6 +9,7 @@ from .commands import Ask, Drop, Link, SaveTaken, Say, Steps, Taken, Tell, Unlin
 from .configs import Demand, shared
 from .cpus import NO_CPUS, Cpus, print_list
 from .ledger import Container, Kind, Ledger, Sighting, State, Topic, report
+from .lifting import give_back_at_the_end
 from .newcomers import refuse, requested_by_untold
 from .placing import demand_of
 from .script import Refused
@@ -31,6 +32,7 @@ def end(turn: Turn, container: Container) -> Steps[None]:
     """A container that is gone, or another one now: its link goes first, so that no command reaches its group."""
     ledger, name, seen = turn.ledger, container.name, container.seen
     yield from untell(ledger, name)
+    yield from give_back_at_the_end(turn, container)
     del ledger.containers[name]
     ledger.forget(name)
     if not seen.told.is_system and not turn.came_anew(seen.group) and seen.group.path in ledger.taken:
@@ -62,6 +64,8 @@ def follow_all(turn: Turn) -> Steps[bool]:
 def follow(turn: Turn, name: str, sighting: Sighting) -> Steps[bool]:
     ledger = turn.ledger
     before = ledger.containers[name].seen
+    if before is sighting:
+        return False
     if before.asks == sighting.asks or sighting.told.is_system:
         if before.group is not sighting.group:
             ledger.change(name, seen=sighting)

@@ -11,7 +11,7 @@ from .commands import Command, Level, Say, Steps, Taken
 from .configs import Config, Demand, Limit, Pin, stays
 from .cpus import NO_CPUS, Cpus
 from .machine import Machine
-from .seen import Group, Stamp, Told
+from .seen import Found, Group, Stamp, Told
 
 MOST_PAUSES = 64  # times the first one
 
@@ -90,13 +90,26 @@ class Container:
         return stays(self.seen.config)
 
 
+@dataclass(frozen=True)
+class Sighted:
+    """A container as it was seen, and by what: it is seen the same where all of these are the same."""
+
+    found: Found
+    container: Optional[Container]
+    taken: Optional[Taken]
+    sighting: Sighting
+
+
 class Topic(Enum):
     """Of what something can be left undone. Of each container, path and the like there is one thing at most under each topic."""
+
+    __hash__ = object.__hash__  # there is one of each, and Enum's own hash is slow
 
     CONTAINER = "container"
     STAYS = "stays"
     DRIFT = "drift"
     SQUEEZED = "squeezed"
+    LIMIT = "limit"
     UNSEEN = "unseen"
     SLICE = "slice"
     PROCESSES = "processes"
@@ -140,7 +153,8 @@ class Problem:
 
 
 Key = Tuple[Topic, str]
-CONTAINER_TOPICS = (Topic.CONTAINER, Topic.STAYS, Topic.DRIFT, Topic.SQUEEZED)
+CONTAINER_PAUSES = ("container", "limit")
+CONTAINER_TOPICS = (Topic.CONTAINER, Topic.STAYS, Topic.DRIFT, Topic.SQUEEZED, Topic.LIMIT)
 
 
 @dataclass(frozen=True)
@@ -160,12 +174,13 @@ class Settings:
     root: Optional[str] = None  # of the tree; nothing where no writes are to be made
     pin: Pin = Pin.ALL
     homes: bool = True
-    slices: Tuple[str, ...] = ()  # the groups of the system that are to be on the pool, below the root
+    slices: Tuple[str, ...] = ()  # what --rest names
     pool_least: int = 0  # newcomers wait rather than bring the pool below so many CPUs
     pause: float = 1.0
     certificates: str = ""
     figures: str = ""
     pool: bool = False
+    lift: bool = False  # whether one that has CPUs of its own has no limit
 
 
 COUNTERS = ("plans_total", "moves_total", "steps_total", "shortages_total", "refused_writes_total", "distance", "distance_beyond_local")
@@ -185,6 +200,7 @@ class Ledger:
     containers: Dict[str, Container] = field(default_factory=dict)  # by id, in the order in which numarun was told of them
     problems: Dict[Key, Problem] = field(default_factory=dict)
     unsaid: Set[Key] = field(default_factory=set)          # those that are said at the next look, if they are there then
+    sighted: Dict[str, Sighted] = field(default_factory=dict)    # by id what was seen last, so that what is the same is not worked out again
     refused: Dict[str, Sighting] = field(default_factory=dict)   # who was refused, as it was seen then
     blocking: Dict[str, Sighting] = field(default_factory=dict)  # who runs on CPUs and can't be adopted at the moment
     taken: Dict[str, Taken] = field(default_factory=dict)        # by the path of the group
@@ -206,6 +222,7 @@ class Ledger:
     counts: Dict[str, int] = field(default_factory=lambda: dict.fromkeys(COUNTERS, 0))
     times: Dict[str, float] = field(default_factory=lambda: dict.fromkeys(TIMES, 0.0))
     looked: Optional[float] = None  # when it looked last
+    certificate: str = ""           # the file of the last one that was kept
 
     def copy(self) -> Ledger:
         """Another one, of which each part can be changed by itself."""
@@ -241,7 +258,7 @@ class Ledger:
 
     def settle(self, topic: Topic, of: str = "", *kinds: Kind) -> None:
         """It is done now, or what of these kinds was left."""
-        if (topic, of) in self.problems and (not kinds or self.problems[topic, of].kind in kinds):
+        if self.problems and (topic, of) in self.problems and (not kinds or self.problems[topic, of].kind in kinds):
             del self.problems[topic, of]
             self.unsaid.discard((topic, of))
 
@@ -251,7 +268,8 @@ class Ledger:
             self.settle(topic, name)
         for kept in (self.refused, self.blocking):
             kept.pop(name, None)
-        self.pauses.pop(("container", name), None)
+        for what in CONTAINER_PAUSES:
+            self.pauses.pop((what, name), None)
 
     def is_over(self, what: str, of: str, now: float) -> bool:
         """Whether what failed may be tried again."""

@@ -8,7 +8,8 @@ from typing import Dict, Optional, Set, Tuple, Union
 from .commands import Steps
 from .configs import Limit, bare, nodes_named, other_limit
 from .cpus import NO_CPUS, Cpus
-from .ledger import CONTAINER_TOPICS, Container, Kind, Ledger, Problem, Sighting, Topic, report
+from .ledger import CONTAINER_PAUSES, CONTAINER_TOPICS, Container, Kind, Ledger, Problem, Sighted, Sighting, Topic, report
+from .lifting import limit_of
 from .seen import Found, Group, Missing, Told
 from .slices import rest_of
 from .telling import Turn
@@ -36,17 +37,18 @@ def see_all(turn: Turn) -> Steps[None]:
 def forget_those_gone(ledger: Ledger, names: Set[str]) -> None:
     """Nothing is kept of who is not one of these, and was not told of either."""
     kept = {of for topic, of in ledger.problems if topic in CONTAINER_TOPICS} | ledger.refused.keys() | ledger.blocking.keys()
-    kept |= {of for what, of in ledger.pauses if what == "container"}
+    kept |= {of for what, of in ledger.pauses if what in CONTAINER_PAUSES}
     for name in kept - names - ledger.containers.keys():
         ledger.forget(name)
+    for name in ledger.sighted.keys() - names:
+        del ledger.sighted[name]
 
 
 def see(turn: Turn, name: str, found: Union[Found, Missing]) -> Steps[None]:
     """Who can't be seen and has a process has not ended."""
     ledger = turn.ledger
     if isinstance(found, Found):
-        turn.there[name] = Sighting(found.told, found.stamp, found.config, found.group, *limits(ledger, name, found),
-                                     found.age, found.stopped, found.near)
+        turn.there[name] = sighting_of(ledger, name, found)
         ledger.settle(Topic.STAYS, name)
         ledger.settle(Topic.CONTAINER, name, Kind.ABSENT)
         return
@@ -62,6 +64,18 @@ def see(turn: Turn, name: str, found: Union[Found, Missing]) -> Steps[None]:
         yield from say_absent(ledger, name, found.why)
 
 
+def sighting_of(ledger: Ledger, name: str, found: Found) -> Sighting:
+    """One that is there, as it is seen. What is as it was at the last look is the same object, so that most of a look is no work."""
+    container, taken, before = ledger.containers.get(name), ledger.taken.get(found.group.path), ledger.sighted.get(name)
+    if before and before.found is found and before.container is container and before.taken is taken:
+        return before.sighting
+    sighting = Sighting(found.told, found.stamp, found.config, found.group, *limits(ledger, name, found), found.age, found.stopped, found.near)
+    if container and container.seen == sighting:
+        sighting = container.seen
+    ledger.sighted[name] = Sighted(found, container, taken, sighting)
+    return sighting
+
+
 def limits(ledger: Ledger, name: str, found: Found) -> Tuple[Optional[Limit], Optional[Cpus]]:
     """The limit and the nodes of a container's group, where somebody gave it others than its config has."""
     if found.told.is_system or not ledger.has_tree:
@@ -70,7 +84,7 @@ def limits(ledger: Ledger, name: str, found: Found) -> Tuple[Optional[Limit], Op
     has = container.nodes if container else nodes_named(found.config)
     if not nodes or nodes == written(ledger, has) or not are_known(ledger, nodes):
         nodes = container.followed if container else None
-    return other_limit(found.config, found.group.limit), nodes
+    return other_limit(found.config, limit_of(ledger, found.group)), nodes
 
 
 def written(ledger: Ledger, nodes: Optional[Cpus]) -> Cpus:
@@ -130,6 +144,10 @@ def see_left_by_one_before(turn: Turn) -> Steps[None]:
 def is_same(ledger: Ledger, container: Container, sighting: Sighting) -> bool:
     """Whether it is the container that numarun was told of: its group is the same, and was not made anew since."""
     before = container.seen
+    if sighting is before:
+        return True
+    if sighting.told.is_system != before.told.is_system:
+        return False
     if (sighting.stamp, sighting.group.inode) == (before.stamp, before.group.inode):
         return True
     if (sighting.group.path, sighting.group.inode) != (before.group.path, before.group.inode):

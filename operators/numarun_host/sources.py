@@ -87,7 +87,7 @@ class Folders:
         for path in self.paths:
             names, containers, stranger = self.names(path), 0, ""
             for name in sorted(names or []):
-                told = self.container(os.path.join(path, name))
+                told = self.container(f"{path}/{name}")
                 if told:
                     found.setdefault(name, []).append(told)
                 containers, stranger = containers + bool(told), stranger or ("" if told else name)
@@ -101,6 +101,8 @@ class Folders:
         self.known = {folder: known for folder, known in self.known.items() if folder in there}
 
     def chosen(self, name: str, several: List[Told]) -> Told:
+        if len(several) == 1:
+            return several[0]
         before = self.told.get(name)
         return next((told for told in several if before and told.folder == before.folder), several[0])
 

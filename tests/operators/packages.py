@@ -1,5 +1,5 @@
 """Tries the unit and the package: that nothing ends the agent for good on a fresh boot, that the page's commands come to an agent that
-starts, and a package that is made, installed in a root folder of its own, tried and removed. No service manager is started."""
+starts, and a package that is made (layers.py installs it). No service manager is started."""
 
 import configparser
 import json
@@ -128,18 +128,13 @@ def before_any_container():
     check("the first one", (site.has("a"), [line for line in lines if "look" in line], agent.end()[0]), (["1-2"], [], 0))
 
 
-def dpkg(root, *words):
-    ran = subprocess.run(["dpkg", f"--root={root}", "--force-depends", "--log=/dev/null", *words], capture_output=True)
-    return ran.returncode, ran.stderr.decode() if ran.returncode else ""
-
-
 @long_case
 def package():
-    if not shutil.which("dpkg-deb"):
-        print("the package: passed over, as there is no dpkg-deb")
+    if not shutil.which("dh_python3"):
+        print("the package: passed over, as there is none: dh_python3")
         return
     refuses("install.sh", "--deb", "/dev/null", says="/dev/null: no folder", env=HERE)
-    folder, root = scratch("packages"), scratch("root of its own")
+    folder = scratch("packages")
     os.makedirs(folder)
     status, out, err = told("install.sh", "--deb", folder, env=HERE)
     made = os.listdir(folder)
@@ -148,32 +143,3 @@ def package():
     names = subprocess.run(["dpkg-deb", "--fsys-tarfile", path], capture_output=True).stdout
     owners = set(subprocess.run(["tar", "-tv", "--numeric-owner"], input=names, capture_output=True).stdout.decode().split("\n")[0].split()[1:2])
     check("root's files", owners, {"0/0"})
-    if os.geteuid() == 0:
-        tried(root, path)
-    else:
-        print("the package: installing it is passed over, as this is not root")
-    if shutil.which("lintian"):
-        ran = subprocess.run(["lintian", path], capture_output=True)
-        print("the package: what lintian says, which fails nothing here:", sorted(set(ran.stdout.decode().split("\n"))))
-    else:
-        print("the package: passed over, as there is none: lintian")
-
-
-def tried(root, path):
-    for name in ("info", "updates", "triggers"):
-        os.makedirs(os.path.join(root, "var/lib/dpkg", name))
-    for name in ("status", "available"):
-        open(os.path.join(root, "var/lib/dpkg", name), "w").close()
-    check("dpkg -i", dpkg(root, "-i", path), (0, ""))
-    for name in ("numarun", "numarun-agent", "numarun-hook", "numarun-dry-run"):
-        ran = subprocess.run([os.path.join(root, "usr/bin", name), "--help"], capture_output=True, cwd="/")
-        check(f"{name} --help", (ran.returncode, bool(ran.stdout)), (0, True))
-    check("its unit", unit_of(os.path.join(root, "usr"))["Service"]["ExecStart"].split()[0], '"/usr/bin/numarun-agent"')
-    check("its folders", os.path.isdir(os.path.join(root, "etc/numarun")), True)
-    check("what dpkg says of the files", dpkg(root, "--verify", "numarun"), (0, ""))
-    for place, _, names in os.walk(os.path.join(root, "usr", "lib", "numarun")):
-        if place.endswith("__pycache__"):
-            shutil.rmtree(place)
-    check("dpkg -r", dpkg(root, "-r", "numarun"), (0, ""))
-    left = [os.path.join(place, name) for place, _, names in os.walk(root) for name in names if "/var/lib/dpkg" not in place]
-    check("nothing is left", left, [])
