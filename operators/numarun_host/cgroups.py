@@ -20,7 +20,7 @@ Texts = Tuple[Optional[str], ...]
 def read_file(path: str) -> Optional[str]:
     """A file of a group, or nothing."""
     try:
-        file = os.open(path, os.O_RDONLY | os.O_CLOEXEC)
+        file = os.open(path, os.O_RDONLY | os.O_CLOEXEC | os.O_NONBLOCK)
     except (OSError, ValueError):
         return None
     try:
