@@ -152,7 +152,7 @@ def seen_by(mutant: Optional[Mutant], cases: Sequence[str]) -> str:
         if mutant:
             (top / PACKAGE / f"{mutant.module}.py").write_text(mutant.source(), encoding="utf-8")
         for case in cases:
-            words = [sys.executable, "-B", str(top / "tests/operators/run.py"), "--jobs", "1", case]
+            words = [sys.executable, "-B", str(top / "tests/operators/run.py"), "--jobs", "0", case]
             try:
                 ran = subprocess.run(words, stdout=subprocess.DEVNULL, stderr=subprocess.DEVNULL, timeout=MOST, check=False)
             except subprocess.TimeoutExpired:
