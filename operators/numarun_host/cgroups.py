@@ -23,7 +23,7 @@ Raw = Tuple[Optional[bytes], ...]
 def read_raw(path: str) -> Optional[bytes]:
     """The bytes of a file of a group, or nothing."""
     try:
-        file = os.open(path, os.O_RDONLY | os.O_CLOEXEC)
+        file = os.open(path, os.O_RDONLY | os.O_CLOEXEC | os.O_NONBLOCK)
     except (OSError, ValueError):
         return None
     try:

@@ -618,6 +618,24 @@ def seen_sets() -> None:
 
 
 @case
+def as_before() -> None:
+    """One of which no config can be read, and which the agent before held, while it has a process: pinned as it was known to be, or by what it requests."""
+    for pinned, has, kept, populated, system, expected in (
+        (None, "2-3", 1, True, False, (2, "2-3")), (None, "0,2", 1, True, False, (None, "-")), (None, "", 1, True, False, (None, "-")), (True, "0,2", 1, True, False, (1, "2")),
+        (False, "2-3", 1, True, False, (None, "-")), (True, "2-3", 9, True, False, None), (True, "2-3", 1, False, False, None), (True, "2-3", 1, True, True, None),
+    ):
+        ledger = ledger_of()
+        ledger.before, ledger.taken = {"a": ("/t/a", pinned)}, {"/t/a": Taken(kept, "", "", system)}
+        turn = Turn(ledger, Look(0.0, groups={"/t/a": Group("/t/a", 1, cpus(has), populated=populated)}))
+        found = sightings.as_before(turn, "a", Told("/b", "/f"))
+        known = configs.at(found.config, "linux", "resources", "cpu", "cpus") if found else None
+        what = (configs.asked(found.config, Pin.ANNOTATED, ledger.settings.machine), known or "-") if found else None
+        check(f"{pinned} on {has!r}, {kept}, {populated}, {system}", what, expected)
+    turn = Turn(ledger_of(), Look(0.0))
+    check("nobody held it", sightings.as_before(turn, "a", Told("/b", "/f")), None)
+
+
+@case
 def replies() -> None:
     for text, fault, momentary in (("refused E50 KernelFault", 50, True), ("refused E45 NoPids", 45, True), ("refused E111 NoBundle", 111, True),
                                    ("refused E104 NotFree 3", 104, False), ("ok", None, False), ("refused E5 X", None, False)):

@@ -61,7 +61,7 @@ class Killed(World):
     def is_enough(self, moments: int) -> bool:
         """Whether agents found containers that others had left, and pinned some, as often as can be asked for."""
         counts = self.counts()
-        return counts["adopt"] * 4 > moments and counts["hold"] * 4 > moments and self.looks > 5 * moments
+        return counts["adopt"] * 4 > moments and counts["hold"] * 4 > moments and self.looks > 20 * moments
 
 
 def killed_at_moments(folder: str, seed: int, moments: int) -> None:

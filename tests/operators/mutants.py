@@ -30,7 +30,7 @@ PACKAGE = pathlib.Path("operators/numarun_host")
 DECIDE = ("changes", "configs", "decide", "homes", "ledger", "newcomers", "placing", "plans", "room", "sightings", "slices", "telling")
 COPIED = ("operators", "tests/operators")
 MOST = 600  # seconds in which a case ends, or else it has seen the mutant
-CASES = ("decided", "decisions/short", "decisions/long")
+CASES = ("decided", "parts", "decisions/short", "decisions/long")
 
 COMPARED: Dict[Type[ast.cmpop], Type[ast.cmpop]] = {
     ast.Lt: ast.LtE, ast.LtE: ast.Lt, ast.Gt: ast.GtE, ast.GtE: ast.Gt, ast.Eq: ast.NotEq, ast.NotEq: ast.Eq, ast.In: ast.NotIn, ast.NotIn: ast.In,
@@ -152,7 +152,7 @@ def seen_by(mutant: Optional[Mutant], cases: Sequence[str]) -> str:
         if mutant:
             (top / PACKAGE / f"{mutant.module}.py").write_text(mutant.source(), encoding="utf-8")
         for case in cases:
-            words = [sys.executable, "-B", str(top / "tests/operators/run.py"), "--jobs", "1", case]
+            words = [sys.executable, "-B", str(top / "tests/operators/run.py"), "--jobs", "0", case]
             try:
                 ran = subprocess.run(words, stdout=subprocess.DEVNULL, stderr=subprocess.DEVNULL, timeout=MOST, check=False)
             except subprocess.TimeoutExpired:

@@ -169,7 +169,7 @@ def is_broken(path: str) -> bool:
         with open(path, "rb") as file:
             text = file.read(2 << 20)
         return len(text) > 1 << 20 or not isinstance(json.loads(text.decode()), dict)
-    except (ValueError, RecursionError):
+    except (OSError, ValueError, RecursionError):
         return True
 
 
@@ -215,16 +215,17 @@ def watched_folders() -> None:
 
 @case
 def group_files() -> None:
-    """In the files of a container's group."""
+    """In the files of a container's group, of which some are not there."""
     site, chance = made(), random.Random(SEED + 3)
     contents = [b"", b"\xff\xfe", b"x", b"1-", b"99999", b"0-4095\n" * 3, b"\0" * 100, b"max 0", b"populated 2", b"-1", b"0" * 70000, b"max", b"1 1 1", b"populated 1"]
     for k in range(COUNT // 10):
         site.come(f"c{k:02}", 1 + k % 2)
         for file in ("cpuset.cpus", "cpuset.mems", "cpuset.cpus.effective", "cpu.max", "cgroup.events"):
             path = site.at(f"root/numarun/c{k:02}", file)
-            if os.path.lexists(path):
+            with open(path, "wb") as odd:
+                odd.write(chance.choice(contents))
+            if chance.random() < 0.1:
                 os.remove(path)
-            odd_file(chance, path, chance.choice(contents))
     agent = Open(site)
     agent.until("adopt other")
     time.sleep(2)
@@ -233,18 +234,32 @@ def group_files() -> None:
     check("it ends when it is told to", status in (0, 1), True)
 
 
+def connected(path: str) -> socket.socket:
+    """A connection, once the agent has taken up enough of those before."""
+    until = time.monotonic() + 60
+    while True:
+        door = socket.socket(socket.AF_UNIX, socket.SOCK_STREAM)
+        door.settimeout(10)
+        try:
+            door.connect(path)
+            return door
+        except BlockingIOError:
+            door.close()
+            if time.monotonic() > until:
+                raise
+            time.sleep(0.05)
+
+
 @case
 def sockets() -> None:
     """What is told at the agent's socket: odd lines, none, many at once; who asks as one ought to is answered."""
     site, chance = made(), random.Random(SEED + 4)
     agent = Open(site)
-    agent.until("adopt other")
+    agent.until("done")
     doors: List[socket.socket] = []
     with near(site.at("work/hooks")) as path:
-        for k in range(COUNT + 200):
-            door = socket.socket(socket.AF_UNIX, socket.SOCK_STREAM)
-            door.settimeout(10)
-            door.connect(path)
+        for k in range(COUNT):
+            door = connected(path)
             text = chance.choice((b"", b"\n", b"good", b"\xff\n", b"x" * 1000, b"?status", b"\0\n", b"a\nb\nc\n", os.urandom(200), b"nobody\n"))
             try:
                 door.sendall(text)

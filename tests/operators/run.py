@@ -28,9 +28,10 @@ from typing import Dict, Iterable, Iterator, List, Sequence, Tuple
 
 import sites
 import trial
+from numarun_host import agent, explain
 
 HERE = pathlib.Path(__file__).resolve().parent
-SHARED = (sites, trial)  # what most cases import is read once, before they are begun
+SHARED = (agent, explain, sites, trial)  # what most cases import is read once, before they are begun
 LONG = 10.0  # seconds from which on a line says how long a case took
 MOST = 1800  # seconds in which a case has to end
 
@@ -167,6 +168,20 @@ def run_all(cases: Sequence[Case], jobs: int, folder: str) -> Iterator[Ended]:
             end_all_of(process)
 
 
+def run_in_turn(cases: Sequence[Case], folder: str) -> Iterator[Ended]:
+    """Runs the cases in this process, one after another, up to the first that fails."""
+    for case in cases:
+        os.environ["SCRATCH"] = tempfile.mkdtemp(dir=folder)
+        began, status = time.monotonic(), 1
+        try:
+            status = run_here(case)
+        except Exception:
+            traceback.print_exc(file=sys.stdout)
+        yield Ended(case, status, time.monotonic() - began, "")
+        if status:
+            return
+
+
 def end_all_of(process: int) -> None:
     """Ends what a case has left: its process leads a group of its own."""
     with contextlib.suppress(ProcessLookupError):
@@ -192,11 +207,11 @@ def line_of_file(file: str, ended: Iterable[Ended]) -> str:
 
 
 def run(cases: Sequence[Case], jobs: int) -> int:
-    """Runs them, and shows what came of it; the status."""
+    """Runs them, side by side or with no jobs in this process, and shows what came of it; the status."""
     done: Dict[str, List[Ended]] = {}
     count = {file: sum(case.file == file for case in cases) for file in {case.file for case in cases}}
     with tempfile.TemporaryDirectory(prefix="operators-") as folder:
-        for ended in run_all(cases, jobs, folder):
+        for ended in run_all(cases, jobs, folder) if jobs else run_in_turn(cases, folder):
             file = ended.case.file
             done.setdefault(file, []).append(ended)
             for line in lines_of(ended):
@@ -212,7 +227,7 @@ def main(words: Sequence[str]) -> int:
     parser = argparse.ArgumentParser(prog="run.py", description=__doc__, formatter_class=argparse.RawDescriptionHelpFormatter)
     parser.add_argument("names", nargs="*", metavar="NAME[/CASE]", help="what is run (all)")
     parser.add_argument("--list", action="store_true", help="print the names, and run nothing")
-    parser.add_argument("--jobs", type=int, default=(os.cpu_count() or 1) + 1, metavar="N", help="how many are run side by side (%(default)s)")
+    parser.add_argument("--jobs", type=int, default=(os.cpu_count() or 1) + 1, metavar="N", help="how many are run side by side; with 0 all in this process, up to the first that fails (%(default)s)")
     asked = parser.parse_args(words)
     try:
         cases = chosen(all_cases(), asked.names)
@@ -222,7 +237,7 @@ def main(words: Sequence[str]) -> int:
     if asked.list:
         print("\n".join(case.title for case in cases))
         return 0
-    return run(cases, max(asked.jobs, 1))
+    return run(cases, max(asked.jobs, 0))
 
 
 if __name__ == "__main__":

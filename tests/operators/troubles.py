@@ -127,7 +127,7 @@ class Troubled(World):
                 self.own.pop(name, None)
 
     def is_enough(self, moments: int) -> bool:
-        return self.looks > 5 * moments and min(self.did.values()) > 0
+        return self.looks > 20 * moments and min(self.did.values()) > 0
 
 
 def children(pid: int) -> List[int]:
