@@ -64,19 +64,19 @@ def keep(turn: Turn, container: Container, limit: Optional[Limit]) -> None:
 
 
 def lift(turn: Turn, container: Container, limit: Limit) -> Steps[None]:
-    text = f"lift {turn.ledger.title(container.name)}: no limit in place of {limit[0]} {limit[1]}, since it has CPUs of its own"
-    yield from set_limit(turn, container, SetLimit(container.seen.group.path, container.seen.group.inode, None, limit), text)
+    if (yield from set_limit(turn, container, SetLimit(container.seen.group.path, container.seen.group.inode, None, limit))):
+        yield Say(f"lift {turn.ledger.title(container.name)}: no limit in place of {limit[0]} {limit[1]}, since it has CPUs of its own")
 
 
 def give_back(turn: Turn, container: Container, group: Group, limit: Limit) -> Steps[None]:
     """Lets a group have its limit again, if nobody gave it another one since."""
-    text = f"limit {turn.ledger.title(container.name)}: {limit[0]} {limit[1]} again"
-    if (yield from set_limit(turn, container, SetLimit(group.path, group.inode, limit, None), text)):
+    if (yield from set_limit(turn, container, SetLimit(group.path, group.inode, limit, None))):
+        yield Say(f"limit {turn.ledger.title(container.name)}: {limit[0]} {limit[1]} again")
         keep(turn, container, None)
 
 
-def set_limit(turn: Turn, container: Container, command: SetLimit, text: str) -> Steps[bool]:
-    """Writes it, and says so; whether that was done. Where the group has another limit by now, that is not lifted, and the next look finds it."""
+def set_limit(turn: Turn, container: Container, command: SetLimit) -> Steps[bool]:
+    """Writes it; whether that was done. Where the group has another limit by now, that is not lifted, and the next look finds it."""
     ledger, name = turn.ledger, container.name
     answer = yield command
     if answer.stale:
@@ -87,8 +87,6 @@ def set_limit(turn: Turn, container: Container, command: SetLimit, text: str) ->
         return False
     ledger.end_pause("limit", name)
     ledger.settle(Topic.LIMIT, name)
-    if not answer.stale:
-        yield Say(text)
     return not answer.stale
 
 

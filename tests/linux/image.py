@@ -59,6 +59,9 @@ def put_desk(root, program):
     for name in ("docs", "examples", "operators"):
         shutil.copytree(os.path.join(TOP, name), f"{root}/numarun/{name}", ignore=shutil.ignore_patterns("__pycache__"))
     put(root, os.path.join(TOP, "README.md"), "/numarun/README.md")
+    if shutil.which("dh_python3"):  # the package is made here, since what makes it is no part of a small machine
+        words = ["bash", os.path.join(TOP, "operators", "install.sh"), "--deb", root]
+        subprocess.run(words, env={**os.environ, "PROGRAM": program}, stdout=subprocess.DEVNULL, check=True)
     put(root, program, "/numarun/crates/numarun/out/numarun")
 
 

@@ -92,7 +92,7 @@ def same_files() -> None:
     names = {re.sub(r"\.gz$", "", line.split(None, 5)[5].split(" -> ")[0]) for line in listed if not line.startswith("d")}
     packed = {re.sub(r"^\./(usr/)?", "", name) for name in names}
     installed = {line for line in open(os.path.join(prefix, "lib/numarun/installed")).read().split("\n") if line and not line.endswith("/")}
-    of_debian = {"share/doc/numarun/changelog", "share/doc/numarun/copyright", "share/python3/runtime.d/numarun.rtupdate"}
+    of_debian = {"share/doc/numarun/changelog", "share/doc/numarun/copyright", "share/python3/runtime.d/numarun.rtupdate", "share/lintian/overrides/numarun"}
     check("what one has and the other lacks", packed ^ installed, of_debian | {"lib/numarun/installed"})
     check("a folder for the machine file", any(line.endswith(" ./etc/numarun/") for line in listed), True)
     unit = subprocess.run(f"dpkg-deb --fsys-tarfile {shlex.quote(path)} | tar -xO --wildcards '*/numarun-agent.service'", shell=True, capture_output=True, text=True).stdout

@@ -22,8 +22,8 @@ TOP, OUT, OUT_OF_AGENT = tree.REPOSITORY, "/tmp/typed", "/tmp/agent"
 OPERATORS = sorted(f"operators/{name}" for name in os.listdir(f"{TOP}/operators") if name.endswith(".md"))
 PAGES = {name: read(f"{TOP}/{name}") for name in ("README.md", *OPERATORS)}
 HERE = {"PATH": "/usr/local/bin:/usr/bin:/bin:/app", "HOME": "/root", "TERM": "dumb"}
-# What is not typed: it wants the toolchain, or a service manager.
-ELSEWHERE = ("bash examples/quick-look.sh", "bash tests/all.sh", "bash build.sh", "systemctl ", "journalctl ")
+# What is not typed: it wants the toolchain, what makes packages, or a service manager.
+ELSEWHERE = ("bash examples/quick-look.sh", "bash tests/all.sh", "bash build.sh", "operators/install.sh --deb", "systemctl ", "journalctl ")
 done = set()
 
 
@@ -257,14 +257,17 @@ def taken_away():
 
 
 def package():
-    """A package, in a database of packages that knows what it depends on."""
-    typed(command("operators/install.sh --deb"))
+    """The package that was made outside, in a database of packages that knows what it depends on."""
+    line = command("dpkg -i")
+    if not [name for name in os.listdir("/") if name.endswith(".deb")]:
+        done.add(line)
+        return say("walk: the package is passed over, as none could be made")
     for name in ("info", "updates", "triggers"):
         os.makedirs(f"/var/lib/dpkg/{name}")
     with open("/var/lib/dpkg/status", "w") as file:
         for name, version in (("python3", "3.11"), ("libc6", "2.36")):
-            file.write(f"Package: {name}\nStatus: install ok installed\nMaintainer: nobody\nArchitecture: amd64\nVersion: {version}\nDescription: there\n\n")
-    typed(command("dpkg -i"))
+            file.write(f"Package: {name}\nStatus: install ok installed\nMaintainer: nobody\nArchitecture: amd64\nMulti-Arch: allowed\nVersion: {version}\nDescription: there\n\n")
+    typed(line, folder="/")
     assert "agent" in typed("numarun-agent --help")
     typed("numarun-describe host --cores > /etc/numarun/machine.json")
     typed("dpkg -r numarun")
