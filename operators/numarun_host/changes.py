@@ -68,7 +68,7 @@ def follow(turn: Turn, name: str, sighting: Sighting) -> Steps[bool]:
     if not ledger.is_over("update", "", turn.now):
         return False
     container = ledger.change(name, seen=sighting)
-    demand = demand_of(turn, sighting, container.home)
+    demand = demand_of(turn, sighting, container.home if sighting.listed == before.listed else None)
     if demand.config == (container.wanted or container.demand).config:
         return False
     if demand.count is None or container.given.count is None:
@@ -131,18 +131,30 @@ def mend(turn: Turn, container: Container, sighting: Sighting) -> Steps[None]:
         what = f"{print_list(group.cpus)} in place of {print_list(cpus)}"
     else:
         what = f"nodes {print_list(group.nodes or NO_CPUS)} in place of {print_list(written(ledger, container.nodes))}"
-    yield from report(ledger, Topic.DRIFT, name, Kind.DRIFT, f"{ledger.title(name)} has {what}: that is written again")
+    if sighting.listed == container.seen.listed:  # else its runtime wrote it, and that is followed
+        yield from report(ledger, Topic.DRIFT, name, Kind.DRIFT, f"{ledger.title(name)} has {what}: that is written again")
     yield from untell(ledger, name)
     yield Link(name, group.path)
     reply = yield from ask(ledger, Tell(Verb.ADOPT, name, container.given.config, cpus))
     if reply.fault is None:
-        ledger.change(name, seen=dataclasses.replace(sighting, nodes=container.followed))
-        turn.there[name] = ledger.containers[name].seen
+        ledger.change(name, seen=dataclasses.replace(container.seen, group=group, nodes=container.followed))
+        turn.there[name] = dataclasses.replace(sighting, nodes=container.followed)
         ledger.settle(Topic.DRIFT, name)
         return
     del ledger.containers[name]
     yield from refuse(turn, name, dataclasses.replace(sighting, stamp=None), reply)
     yield from report(ledger, Topic.DRIFT, name, Kind.DRIFT, f"{ledger.title(name)}: that can't be written again")
+
+
+def keep_lists(turn: Turn) -> None:
+    """Of whom its runtime gave another list, that is what its group requested, for --release and the next agent."""
+    ledger = turn.ledger
+    for container in ledger.containers.values():
+        seen, taken = container.seen, ledger.taken.get(container.seen.group.path)
+        text = seen.listed or seen.told.listed
+        if taken and text and taken.inode == seen.group.inode and (taken.listed or seen.listed) and (taken.cpus, taken.listed) != (text, bool(seen.listed)):
+            ledger.taken[seen.group.path] = dataclasses.replace(taken, cpus=text, listed=bool(seen.listed))
+            turn.unsaved = True
 
 
 def compare_effective(turn: Turn, container: Container, sighting: Sighting) -> Steps[None]:

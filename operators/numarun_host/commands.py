@@ -98,12 +98,14 @@ class Write:
 
 @dataclass(frozen=True)
 class Taken:
-    """What a group requested before the agent took it up, as texts; nothing where that can't be read. `system` is one of the system's."""
+    """What a group requested before the agent took it up, as texts; nothing where that can't be read. `system` is one of the system's;
+    one is `listed` whose CPUs are those that an update by its runtime wrote since."""
 
     inode: int
     cpus: Optional[str]
     nodes: Optional[str]
     system: bool
+    listed: bool = False
 
 
 @dataclass(frozen=True)

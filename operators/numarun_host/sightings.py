@@ -6,7 +6,7 @@ import dataclasses
 from typing import Dict, Optional, Set, Tuple, Union
 
 from .commands import Steps
-from .configs import Limit, bare, nodes_named, other_limit
+from .configs import CPU, Limit, at, bare, nodes_named, other_limit, same_list
 from .cpus import NO_CPUS, Cpus
 from .ledger import CONTAINER_TOPICS, Container, Kind, Ledger, Problem, Sighting, Topic, report
 from .seen import Found, Group, Missing, Told
@@ -46,7 +46,7 @@ def see(turn: Turn, name: str, found: Union[Found, Missing]) -> Steps[None]:
     ledger = turn.ledger
     if isinstance(found, Found):
         turn.there[name] = Sighting(found.told, found.stamp, found.config, found.group, *limits(ledger, name, found),
-                                     found.age, found.stopped, found.near)
+                                     found.age, found.stopped, found.near, list_of(ledger, found))
         ledger.settle(Topic.STAYS, name)
         ledger.settle(Topic.CONTAINER, name, Kind.ABSENT)
         return
@@ -71,6 +71,18 @@ def limits(ledger: Ledger, name: str, found: Found) -> Tuple[Optional[Limit], Op
     if not nodes or nodes == written(ledger, has) or not are_known(ledger, nodes):
         nodes = container.followed if container else None
     return other_limit(found.config, found.group.limit), nodes
+
+
+def list_of(ledger: Ledger, found: Found) -> Optional[str]:
+    """The list of CPUs that an update by its runtime gave a container. runc has it in its state until the next update of something else,
+    by which it forgets it; so the last one is kept."""
+    group, told = found.group, found.told.listed
+    if found.told.is_system or not ledger.has_tree:
+        return None
+    if told:
+        return None if same_list(told, at(found.config, *CPU, "cpus")) else told
+    before = ledger.taken.get(group.path)
+    return before.cpus if before and before.listed and before.inode == group.inode else None
 
 
 def written(ledger: Ledger, nodes: Optional[Cpus]) -> Cpus:
