@@ -15,8 +15,8 @@ HERE = os.path.dirname(os.path.abspath(__file__))
 TOP = os.path.dirname(os.path.dirname(HERE))
 MODULES = """__future__ _strptime argparse bisect collections contextlib copy ctypes dataclasses datetime encodings.ascii encodings.latin_1
 encodings.utf_8 enum errno fcntl gettext itertools json linecache locale logging math os pathlib random re select selectors
-shlex shutil signal socket subprocess sys tempfile textwrap threading time tokenize traceback typing zlib""".split()
-AT_A_DESK = "html pyexpat site xml.etree.ElementTree".split()
+shlex shutil signal site socket subprocess sys tarfile tempfile textwrap threading time tokenize traceback typing zlib""".split()
+AT_A_DESK = "html pyexpat xml.etree.ElementTree".split()
 PACKAGES = "bash dash coreutils sed grep mawk findutils gzip tar dpkg diffutils hwloc-nox hwloc".split()
 
 
@@ -70,6 +70,7 @@ def main(root, *files):
     python, *modules = files_of_python(AT_A_DESK if desk else [])
     put_linked(root, python)
     os.symlink(python, f"{root}/bin/python3")
+    put_linked(root, "/usr/bin/env")
     for path in modules:
         put_linked(root, path) if path.endswith(".so") else put(root, path)
     if desk:

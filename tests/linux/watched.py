@@ -69,7 +69,8 @@ class Agent:
     """An agent that runs; what it says is in a file."""
 
     def __init__(self, *more, watch=FOLDER):
-        self.process = subprocess.Popen(words("--watch", watch, "--pause", "0.1", *more), stdin=subprocess.DEVNULL, stdout=open(OUT, "a"),
+        watching = ["--watch", watch] if watch else []
+        self.process = subprocess.Popen(words(*watching, "--pause", "0.1", *more), stdin=subprocess.DEVNULL, stdout=open(OUT, "a"),
                                         stderr=subprocess.STDOUT)
 
     def until(self, holds, what):
