@@ -4,7 +4,7 @@
 #        operators/install.sh --deb FOLDER
 #
 # PREFIX/bin has numarun and the scripts: numarun-agent, numarun-draw-plan, numarun-dry-run, numarun-explain,
-# numarun-hook, numarun-describe. PREFIX/lib/systemd/system has a unit for the agent, which is not
+# numarun-hook, numarun-runc, numarun-describe. PREFIX/lib/systemd/system has a unit for the agent, which is not
 # enabled. PREFIX/share/man has the man pages; PREFIX/share/doc/numarun has the pages of operators/, docs/formats.md and, in examples/,
 # the bundles, machine files, scripts, certificates and problems, below the names that they have here. The program is the one that PROGRAM in the
 # environment names, or the proved one of this checkout, from bash build.sh.
@@ -20,7 +20,7 @@
 set -euo pipefail
 export LC_ALL=C
 top=$(cd "$(dirname "$(realpath "$0")")/.." && pwd)
-scripts=(agent draw-plan dry-run explain hook describe)
+scripts=(agent draw-plan dry-run explain hook runc describe)
 
 say() { echo "install.sh: $1" >&2; }
 fail() { say "$1"; exit 1; }
@@ -86,7 +86,7 @@ put_all() {
     done
     put 644 "$top/operators/numarun-agent.service" "$unit"
     put 644 "$top/docs/numarun.1" share/man/man1/numarun.1
-    for name in numarun-agent.8 numarun-hook.8; do
+    for name in numarun-agent.8 numarun-hook.8 numarun-runc.8; do
         put 644 "$top/operators/$name" "share/man/man8/$name"
     done
     for name in "$top"/operators/*.md; do
@@ -135,7 +135,8 @@ Description: exclusive CPUs for containers on NUMA hosts
  A plan for all live containers is optimal, of the least total distance to
  their memory and, among those, by the fewest CPUs that change hands. It
  comes with a certificate that a small checker accepts or refuses. An agent
- keeps the control groups of crun's and podman's containers by such plans.
+ keeps the control groups of the containers of docker, containerd, podman, crun
+ and runc by such plans.
 CONTROL
     (cd "$stage" && find usr -type f -print0 | sort -z | xargs -0 md5sum > DEBIAN/md5sums)
     chmod -R u+w,go-w "$stage"

@@ -5,8 +5,8 @@ input, a line each:
   ended ID                   it is gone
   offline CPU, online CPU    a CPU went or came
   rebalance                  work the plan out anew
-or, with --watch, from a folder of bundles, each by its id, or the state folder of a runtime as /run/crun; and from the
-kernel's list of online CPUs. Where a container's group is, the runtime's state says, or its config by `linux.cgroupsPath`,
+or, with --runtime or --watch, from the folders in which runtimes keep their state, or folders of bundles, each by its id; and from
+the kernel's list of online CPUs. Where a container's group is, the runtime's state says, or its config by `linux.cgroupsPath`,
 or else it is ROOT/numarun/ID.
 
 All events that are there are told before one plan is worked out. What runs already is adopted with the CPUs that its group
@@ -66,7 +66,7 @@ EXAMPLE = f"""what a container says of itself, by an annotation, or a variable o
 
 examples, from the top of the repository:
   echo "created database examples/bundles/database" | operators/numarun-agent examples/machines/two-socket.json
-  operators/numarun-agent host.json --cgroup /sys/fs/cgroup --watch /run/crun
+  operators/numarun-agent host.json --cgroup /sys/fs/cgroup --runtime all
   operators/numarun-agent --release --cgroup /sys/fs/cgroup"""
 LEAST_PAUSE = 0.01
 SUBCOMMANDS = ("status", "release", "check-config", "add-service")

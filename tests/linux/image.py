@@ -58,7 +58,6 @@ def put_desk(root, program):
         os.symlink(f"/usr/bin/{name}", f"{root}/bin/{name}")
     for name in ("docs", "examples", "operators"):
         shutil.copytree(os.path.join(TOP, name), f"{root}/numarun/{name}", ignore=shutil.ignore_patterns("__pycache__"))
-    put(root, os.path.join(TOP, "README.md"), "/numarun/README.md")
     put(root, program, "/numarun/crates/numarun/out/numarun")
 
 
@@ -75,10 +74,11 @@ def main(root, *files):
         put_linked(root, path) if path.endswith(".so") else put(root, path)
     if desk:
         put_desk(root, program)
+    put(root, os.path.join(TOP, "README.md"), "/numarun/README.md")
     for folder in ("operators", "tests/linux"):
         for place, _, names in os.walk(os.path.join(TOP, folder)):
             for name in names:
-                if name.endswith((".py", ".json")) or name.startswith("numarun-"):
+                if name.endswith((".py", ".json", ".md")) or name.startswith("numarun-"):
                     path = os.path.join(place, name)
                     put(root, path, "/numarun/" + os.path.relpath(path, TOP))
     for path in files:

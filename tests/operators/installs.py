@@ -56,7 +56,7 @@ kept = [os.path.relpath(os.path.join(folder, name), TOP) for of in ("bundles", "
 kept += ["operators/" + name for name in os.listdir(OPERATORS) if name.endswith(".md")]
 kept += ["docs/formats.md", "docs/two-socket.svg", "examples/caches.certificate", "examples/caches.problem", "examples/two-containers.certificate"]
 check("the pages", sorted(pages), sorted([f"share/doc/numarun/{name}" for name in kept] +
-      ["share/man/man1/numarun.1", "share/man/man8/numarun-agent.8", "share/man/man8/numarun-hook.8"]))
+      ["share/man/man1/numarun.1", "share/man/man8/numarun-agent.8", "share/man/man8/numarun-hook.8", "share/man/man8/numarun-runc.8"]))
 listed = open(os.path.join(PREFIX, "lib", "numarun", "installed")).read().splitlines()
 check("the list is what is new", sorted(listed), sorted(set(first) - set(BEFORE)))
 check("the unit alone names the prefix", [name for name, told in first.items() if told and PREFIX in str(told[0])],

@@ -10,7 +10,7 @@ from trial import OPERATORS, TOP, check, end
 from trial import told as said
 
 PAGE = os.path.join(TOP, "docs", "numarun.1")
-PAGES = [os.path.join(OPERATORS, name) for name in ("numarun-agent.8", "numarun-hook.8")]
+PAGES = [os.path.join(OPERATORS, name) for name in ("numarun-agent.8", "numarun-hook.8", "numarun-runc.8")]
 PROGRAM = os.environ["PROGRAM"]
 
 
@@ -49,7 +49,7 @@ for command in re.findall(r"^\| `([a-z]+)[^|]*\| (?:to|for|whether|that) ", open
 for path in PAGES:
     helps = said(os.path.basename(path)[:-2], "--help")[1]
     options = re.findall(r"^\.It Fl (-[a-z-]+)", open(path).read(), re.M)
-    check(f"options of {os.path.basename(path)}", [option for option in options if f"-{option} " not in helps], [])
+    check(f"options of {os.path.basename(path)}", [option for option in options if not re.search(f"-{option}[ =]", helps)], [])
     check("and there are some", len(options) > 2, True)
 if shutil.which("mandoc"):
     found = subprocess.run(["mandoc", "-T", "lint", PAGE], capture_output=True)

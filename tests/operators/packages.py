@@ -56,8 +56,9 @@ def goes_on():
     os.mkdir(site.at("second"))
     site.come("b", 1)
     os.rename(site.at("g/b"), site.at("second/b"))
-    paths = {"/etc/numarun/machine.json": site.at("machine.json"), "/sys/fs/cgroup": site.at("root"), "/run/crun": site.at("g")}
+    paths = {"/etc/numarun/machine.json": site.at("machine.json"), "/sys/fs/cgroup": site.at("root"), "/etc/numarun/services": site.at("g"), "all": "docker"}
     words = begun(unit, f"--watch {site.at('second')} --rest more.slice", **paths)
+    check("all runtimes", "--runtime all" in unit["Service"]["ExecStart"], True)
     check("its path", words[0], os.path.join(prefix, "bin", "numarun-agent"))
     ran = subprocess.run([*words, *WORDS, "--online", site.at("online"), "--work", site.at("work"), "--rounds", "1"], capture_output=True)
     check("OPTIONS adds", (ran.returncode, site.has("a", "b"), site.file("system.slice"), site.file("more.slice")), (0, ["1-2", "3"], "0,4-7", "0,4-7"))
@@ -92,7 +93,7 @@ def by_the_page():
     check("a machine file with cores", "cores" in json.load(open(machine)), True)
     check("the unit", open(os.path.join(etc, "systemctl")).read(), "enable --now numarun-agent\n")
     site = Site()
-    words = begun(unit_of(prefix), "", **{"/etc/numarun/machine.json": machine, "/sys/fs/cgroup": site.at("root"), "/run/crun": site.at("no-such")})
+    words = begun(unit_of(prefix), "", **{"/etc/numarun/machine.json": machine, "/sys/fs/cgroup": site.at("root"), "/etc/numarun/services": site.at("no-such"), "all": "docker"})
     ran = subprocess.run([*words, *WORDS, "--work", site.at("work"), "--rounds", "3"], capture_output=True)
     check("it starts", (ran.returncode, ran.stdout.decode().count("refused"), ran.stderr), (0, 0, b""))
 
@@ -163,7 +164,7 @@ def tried(root, path):
     for name in ("status", "available"):
         open(os.path.join(root, "var/lib/dpkg", name), "w").close()
     check("dpkg -i", dpkg(root, "-i", path), (0, ""))
-    for name in ("numarun", "numarun-agent", "numarun-hook", "numarun-dry-run"):
+    for name in ("numarun", "numarun-agent", "numarun-hook", "numarun-dry-run", "numarun-runc"):
         ran = subprocess.run([os.path.join(root, "usr/bin", name), "--help"], capture_output=True, cwd="/")
         check(f"{name} --help", (ran.returncode, bool(ran.stdout)), (0, True))
     check("its unit", unit_of(os.path.join(root, "usr"))["Service"]["ExecStart"].split()[0], '"/usr/bin/numarun-agent"')

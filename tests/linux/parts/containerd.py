@@ -3,6 +3,7 @@ pause, exec, kill, and one id in two namespaces. By numarun-runc a container has
 started while no agent answers."""
 
 import os
+import re
 import sys
 
 sys.path[:0] = [os.path.join(os.path.dirname(os.path.abspath(__file__)), "..")]
@@ -77,7 +78,9 @@ def before_its_first_instruction():
     os.chmod(WRAPPER, 0o755)
     agent = watched.Agent("--pause", "3600", "--runtime", "containerd", watch=CONTAINERS)
     agent.until(lambda: os.path.exists(f"{watched.WORK}/hooks"), "the agent")
-    pid, group = run("eager", "--cpus", "2", "--runc-binary", WRAPPER)
+    page = re.search(r"^ctr run .*", read(f"{tree.REPOSITORY}/operators/runtimes.md"), re.M)[0].split()
+    assert page[2] == "-d" and page[-2:] == ["IMAGE", "db"] and page[4] == "/usr/local/bin/numarun-runc", page
+    pid, group = run("eager", *[WRAPPER if word == page[4] else word for word in page[3:-2]])
     assert has_own(pid, group, 2), (requested(group), tree.allowed(pid), watched.lines()[-20:])
     agent.end()
     agent = watched.Agent("--runtime", "containerd", watch=CONTAINERS)

@@ -2,7 +2,11 @@
 of CPUs and of nodes; update, restart, stop and start, pause, exec, kill, remove; a daemon that ends and begins; what is given back. By
 numarun-runc a container has its CPUs before its first instruction, and is not started while no agent answers."""
 
+import json
 import os
+import re
+import shlex
+import subprocess
 import sys
 
 sys.path[:0] = [os.path.join(os.path.dirname(os.path.abspath(__file__)), "..")]
@@ -13,7 +17,15 @@ from of_docker import docker, process, remove, run
 from tree import CPUS, ROOT, read, say
 from watched import requested, runs_on
 
-CONTAINERS, WRAPPER = "/run/numarun-containers", f"{tree.REPOSITORY}/operators/numarun-runc"
+CONTAINERS, WRAPPER = "/run/numarun-containers", "/usr/local/bin/numarun-runc"
+PAGES = {name: read(f"{tree.REPOSITORY}/{name}") for name in ("README.md", "operators/runtimes.md")}
+
+
+def line_of(page, beginning):
+    """The words of the line of a page that begins so, without its comment."""
+    found = re.search(f"^{re.escape(beginning)}.*", PAGES[page], re.M)
+    assert found, (page, beginning)
+    return shlex.split(found[0], comments=True)
 
 
 def has_own(pid, group, many):
@@ -102,9 +114,14 @@ def before_its_first_instruction():
     """The agent would look again in an hour; docker's runtime numarun has the container wait for its answer."""
     agent = watched.Agent("--pause", "3600", "--runtime", "docker", watch=CONTAINERS)
     agent.until(lambda: os.path.exists(f"{watched.WORK}/hooks"), "the agent")
-    own = ["--numarun-runc=/app/runc", "--numarun-wait=300"]
-    daemon = of_docker.begin(runtimes={"numarun": {"path": WRAPPER, "runtimeArgs": own}, "soon": {"path": WRAPPER, "runtimeArgs": [own[0], "--numarun-wait=0.2"]}})
-    pid, group = run("eager", "--cpus", "2", "--runtime", "numarun")
+    os.makedirs(os.path.dirname(WRAPPER))
+    os.symlink(f"{tree.REPOSITORY}/operators/numarun-runc", WRAPPER)
+    page = json.loads(re.findall(r"^```json\n(.*?)^```", PAGES["operators/runtimes.md"], re.M | re.S)[1])["runtimes"]["numarun"]
+    assert page["path"] == WRAPPER and page["runtimeArgs"] == ["--numarun-wait=10"], page
+    daemon = of_docker.begin(runtimes={name: {"path": WRAPPER, "runtimeArgs": [f"--numarun-wait={wait}"]} for name, wait in (("numarun", "300"), ("soon", "0.2"))})
+    typed = " ".join(line_of("operators/runtimes.md", "docker run")).replace("--name db IMAGE", f"--name eager --network none {of_docker.IMAGE} /sleeper")
+    docker(*typed.split()[1:])
+    pid, group = process("eager")
     assert has_own(pid, group, 2), (requested(group), tree.allowed(pid), watched.lines()[-20:])
     agent.end()
     agent = watched.Agent("--runtime", "docker", watch=CONTAINERS)
@@ -121,12 +138,32 @@ def before_its_first_instruction():
     of_docker.end(daemon)
 
 
+def by_readme():
+    """README's lines, as they stand there, and what undoes them: a container that is run with a limit has CPUs of its own."""
+    daemon = of_docker.begin()
+    pid, _ = run("first", "--cpus", "4")
+    describe = line_of("README.md", "operators/numarun-describe host")
+    with open(f"{tree.REPOSITORY}/{describe[-1]}", "w") as file:
+        subprocess.run(describe[:-2], cwd=tree.REPOSITORY, stdout=file, check=True)
+    with open("/tmp/by-readme", "w") as out:
+        agent = subprocess.Popen(line_of("README.md", "operators/numarun-agent host.json"), cwd=tree.REPOSITORY, stdin=subprocess.DEVNULL, stdout=out, stderr=subprocess.STDOUT)
+    assert tree.until(lambda: len(tree.allowed(pid)) == 4 or agent.poll() is not None, watched.SECONDS) and agent.poll() is None, read("/tmp/by-readme")
+    assert "\n" in read("/tmp/by-readme") and any(" hold first(" in line for line in read("/tmp/by-readme").splitlines()), read("/tmp/by-readme")
+    agent.terminate()
+    agent.wait()
+    subprocess.run(line_of("README.md", "operators/numarun-agent --release"), cwd=tree.REPOSITORY, stdin=subprocess.DEVNULL, check=True, capture_output=True)
+    assert runs_on(pid, CPUS), tree.allowed(pid)
+    remove("first")
+    of_docker.end(daemon)
+
+
 watched.begin()
 agent, daemon = begun()
 updated(agent)
 lives(agent)
 given_back(agent, daemon)
 before_its_first_instruction()
+by_readme()
 assert "Traceback" not in read(watched.OUT), read(watched.OUT)[-2000:]
-say("docker: five containers; docker update of limits, lists and nodes, restart, stop and start, kill, exec, a daemon that ends, and numarun-runc")
+say("docker: six containers; README's lines; docker update of limits, lists and nodes, restart, stop and start, kill, exec, a daemon that ends, and numarun-runc")
 tree.clear()
