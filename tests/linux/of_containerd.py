@@ -27,7 +27,7 @@ def begin():
     with open("/tmp/containerd.toml", "w") as file:
         file.write(CONFIG)
     process = subprocess.Popen(["/app/containerd", "--config", "/tmp/containerd.toml"], stdin=subprocess.DEVNULL, stdout=open(LOG, "w"), stderr=subprocess.STDOUT)
-    assert tree.until(lambda: answers() or process.poll() is not None) and process.poll() is None, read(LOG)[-3000:]
+    assert tree.until(lambda: answers() or process.poll() is not None, 600) and process.poll() is None, read(LOG)[-3000:]
     return process
 
 
@@ -44,8 +44,10 @@ def ctr(*words, namespace="default", status=0):
 
 
 def run(name, *words, namespace="default", status=0):
-    """Starts a container; its first process, and its group below the root."""
-    said = ctr("run", "--detach", "--no-pivot", *words, "--rootfs", ROOTFS, name, "/sleeper", namespace=namespace, status=status)
+    """Starts a container; its first process, and its group below the root. Nobody can pivot on a first file system in memory; what says so
+    takes the place of another runc that is named, which has to say it by itself then."""
+    pivot = [] if "--runc-binary" in words else ["--no-pivot"]
+    said = ctr("run", "--detach", *pivot, *words, "--rootfs", ROOTFS, name, "/sleeper", namespace=namespace, status=status)
     return said if status else process(name, namespace)
 
 

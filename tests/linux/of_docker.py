@@ -1,4 +1,4 @@
-"""docker: its daemon, started by hand with its cgroupfs driver, and containers of an image with one program."""
+"""docker: its daemon, started by hand with its cgroupfs driver over a containerd that runs, and containers of an image with one program."""
 
 import io
 import json
@@ -10,7 +10,8 @@ import tree
 from tree import ROOT, read
 
 IMAGE, OUT, LOG = "box", "/tmp/docker-out", "/tmp/dockerd-log"
-DAEMON = ["/app/dockerd", "--bridge", "none", "--iptables=false", "--storage-driver", "vfs", "--exec-opt", "native.cgroupdriver=cgroupfs"]
+DAEMON = ["/app/dockerd", "--bridge", "none", "--iptables=false", "--storage-driver", "vfs", "--exec-opt", "native.cgroupdriver=cgroupfs",
+          "--containerd", "/run/containerd/containerd.sock"]
 HERE = {"PATH": "/bin:/usr/bin:/app", "HOME": "/root", "DOCKER_RAMDISK": "1"}  # a first file system in memory lets nobody pivot
 
 

@@ -15,6 +15,15 @@ from tree import CPUS, ROOT, read, say
 from watched import requested, runs_on
 
 CONTAINERS, WRAPPER = "/run/numarun-containers", "/tmp/numarun-runc"
+# A BinaryName has no words of its own, so a script says them.
+SCRIPT = f"""#!/bin/python3 -SEB
+import os
+import sys
+program, words = "{tree.REPOSITORY}/operators/numarun-runc", sys.argv[1:]
+if "create" in words:
+    words.insert(words.index("create") + 1, "--no-pivot")
+os.execv(program, [program, "--numarun-runc=/app/runc", "--numarun-wait=300", *words])
+"""
 
 
 def has_own(pid, group, many):
@@ -73,8 +82,7 @@ def given_back(agent, web, packets):
 def before_its_first_instruction():
     """The agent would look again in an hour; numarun-runc in place of runc has the container wait for its answer."""
     with open(WRAPPER, "w") as file:
-        file.write(f'#!/bin/python3 -SEB\nimport os\nimport sys\nprogram = "{tree.REPOSITORY}/operators/numarun-runc"\n'
-                   'os.execv(program, [program, "--numarun-runc=/app/runc", f"--numarun-wait={os.environ.get(\'WAIT\', \'300\')}", *sys.argv[1:]])\n')
+        file.write(SCRIPT)
     os.chmod(WRAPPER, 0o755)
     agent = watched.Agent("--pause", "3600", "--runtime", "containerd", watch=CONTAINERS)
     agent.until(lambda: os.path.exists(f"{watched.WORK}/hooks"), "the agent")
@@ -93,9 +101,8 @@ def before_its_first_instruction():
 
 def not_started():
     """No agent answers: the container is not started, and ctr says why."""
-    text = read(WRAPPER).replace("300", "0.2")
     with open(WRAPPER, "w") as file:
-        file.write(text + "\n")
+        file.write(SCRIPT.replace("300", "0.2"))
     said = run("none", "--cpus", "1", "--runc-binary", WRAPPER, status=1)
     assert "the agent has not answered of none in 0.2 s" in said, said
     assert not os.listdir(CONTAINERS), os.listdir(CONTAINERS)

@@ -10,6 +10,7 @@ import subprocess
 import sys
 
 sys.path[:0] = [os.path.join(os.path.dirname(os.path.abspath(__file__)), "..")]
+import of_containerd
 import of_docker
 import tree
 import watched
@@ -158,12 +159,15 @@ def by_readme():
 
 
 watched.begin()
+containerd = of_containerd.begin()
 agent, daemon = begun()
 updated(agent)
 lives(agent)
 given_back(agent, daemon)
 before_its_first_instruction()
 by_readme()
+containerd.terminate()
+containerd.wait()
 assert "Traceback" not in read(watched.OUT), read(watched.OUT)[-2000:]
 say("docker: six containers; README's lines; docker update of limits, lists and nodes, restart, stop and start, kill, exec, a daemon that ends, and numarun-runc")
 tree.clear()
