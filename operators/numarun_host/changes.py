@@ -5,10 +5,10 @@ from __future__ import annotations
 import dataclasses
 from typing import List, Optional
 
-from .commands import Ask, Drop, Link, SaveTaken, Say, Steps, Taken, Tell, Unlink, Verb, Write
+from .commands import Ask, Drop, Level, Link, SaveTaken, Say, Steps, Taken, Tell, Unlink, Verb, Write
 from .configs import Demand, shared
 from .cpus import NO_CPUS, Cpus, print_list
-from .ledger import Container, Kind, Ledger, Sighting, State, Topic, report
+from .ledger import Container, Kind, Ledger, Problem, Sighting, State, Topic, report
 from .newcomers import refuse
 from .placing import demand_of
 from .script import Refused
@@ -105,10 +105,11 @@ def mend_all(turn: Turn) -> Steps[None]:
             continue
         if sighting.group.cpus != container.cpus or nodes_drifted(ledger, container, sighting):
             yield from mend(turn, container, sighting)
-        else:
-            ledger.settle(Topic.DRIFT, name)
-        if name in ledger.containers:
-            yield from compare_effective(turn, container, sighting)
+            continue
+        if (Topic.DRIFT, name) in ledger.unsaid and sighting.listed == container.seen.listed:
+            yield Say(ledger.problems[Topic.DRIFT, name].line, Level.WARNING)
+        ledger.settle(Topic.DRIFT, name)
+        yield from compare_effective(turn, container, sighting)
 
 
 def nodes_drifted(ledger: Ledger, container: Container, sighting: Sighting) -> bool:
@@ -131,19 +132,32 @@ def mend(turn: Turn, container: Container, sighting: Sighting) -> Steps[None]:
         what = f"{print_list(group.cpus)} in place of {print_list(cpus)}"
     else:
         what = f"nodes {print_list(group.nodes or NO_CPUS)} in place of {print_list(written(ledger, container.nodes))}"
-    if sighting.listed == container.seen.listed:  # else its runtime wrote it, and that is followed
-        yield from report(ledger, Topic.DRIFT, name, Kind.DRIFT, f"{ledger.title(name)} has {what}: that is written again")
+    yield from say_drift(ledger, container, sighting, f"{ledger.title(name)} has {what}: that is written again")
     yield from untell(ledger, name)
     yield Link(name, group.path)
     reply = yield from ask(ledger, Tell(Verb.ADOPT, name, container.given.config, cpus))
     if reply.fault is None:
         ledger.change(name, seen=dataclasses.replace(container.seen, group=group, nodes=container.followed))
         turn.there[name] = dataclasses.replace(sighting, nodes=container.followed)
-        ledger.settle(Topic.DRIFT, name)
+        if (Topic.DRIFT, name) not in ledger.unsaid:
+            ledger.settle(Topic.DRIFT, name)
         return
     del ledger.containers[name]
     yield from refuse(turn, name, dataclasses.replace(sighting, stamp=None), reply)
     yield from report(ledger, Topic.DRIFT, name, Kind.DRIFT, f"{ledger.title(name)}: that can't be written again")
+
+
+def say_drift(ledger: Ledger, container: Container, sighting: Sighting, text: str) -> Steps[None]:
+    """Says that somebody wrote a group. By an update runc writes the list first, and then its state, by which the list is followed; so of
+    its containers that is said at the next look, unless the state has another list by then."""
+    key = Topic.DRIFT, container.name
+    if sighting.listed != container.seen.listed:
+        return
+    if sighting.told.listed is None or key in ledger.unsaid:
+        yield from report(ledger, *key, Kind.DRIFT, text)
+    elif key not in ledger.problems:
+        ledger.problems[key] = Problem(Kind.DRIFT, container.name, text)
+        ledger.unsaid.add(key)
 
 
 def keep_lists(turn: Turn) -> None:

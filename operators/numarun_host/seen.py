@@ -12,8 +12,8 @@ from .cpus import NO_CPUS, Cpus
 @dataclass(frozen=True)
 class Told:
     """A container as it was told: its bundle, its folder below what is watched (none of a group of the system itself), its group where
-    the event names it, and which of those that were told under the id it is. Its runtime's state may have its list of CPUs; `fault` is
-    why it can't be told of."""
+    the event names it, and which of those that were told under the id it is. `listed` is the list of CPUs that runc's state has, which
+    may be empty; `fault` is why it can't be told of."""
 
     bundle: str
     folder: Optional[str]

@@ -15,8 +15,8 @@ BUNDLE = "bundle="  # begins the label of runc's that names the bundle
 
 @dataclass(frozen=True)
 class Kept:
-    """The container's bundle, or why there is none; its group below the root, where that is said; the list of CPUs that its runtime's state
-    has; and whether a runtime keeps it, and not a hook."""
+    """The container's bundle, or why there is none; its group below the root, where that is said; the list of CPUs that runc's state has,
+    which may be empty; and whether a runtime keeps it, and not a hook."""
 
     bundle: str = ""
     fault: Optional[str] = None
@@ -56,7 +56,7 @@ def kept_by_runc(state: Config, path: str, root: str) -> Kept:
     bundle = next((text[len(BUNDLE):] for text in texts if text.startswith(BUNDLE)), "")
     if not bundle:
         return Kept(fault=f"{path}: it names no bundle")
-    return Kept(bundle, None, placed(root, state), listed if isinstance(listed, str) and listed.strip() else None, True)
+    return Kept(bundle, None, placed(root, state), listed.strip() if isinstance(listed, str) else None, True)
 
 
 def placed(root: str, state: Optional[Config]) -> Optional[str]:

@@ -6,6 +6,7 @@ import os
 import random
 import subprocess
 import sys
+import time
 
 from sites import QUOTA, SCRATCH, Open, Site
 from numarun_host import runc, services, sources
@@ -103,9 +104,12 @@ def lists():
     agent = Open(site, *words)
     agent.until("done")
     check("as runc made them", site.has("pk", "web"), ["6-7", "0-5"])
-    update(site, "pk", "4-5", writes=True)
+    site.write("pk", "4-5")
+    while site.has("pk") != ["6-7"]:  # a look falls between the two writes of an update
+        time.sleep(0.01)
+    update(site, "pk", "4-5")
     lines = agent.until("hold pk 4-5") + agent.until("done")
-    check("another list", (site.has("pk", "web"), [line for line in lines if line.startswith("drift")]), (["4-5", "0-3,6-7"], []))
+    check("another list", (site.has("pk", "web"), [line for line in lines if line.startswith(("drift", "squeezed"))]), (["4-5", "0-3,6-7"], []))
     update(site, "pk", "")
     site.come("one", 1)
     agent.until("create one")
