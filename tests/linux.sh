@@ -28,12 +28,12 @@ has() {
 
 inside=crun desk='' packages='' daemons='' libraries='' megabytes=320
 ! has podman walk || inside+=" podman conmon"
-! has runc containerd docker walk || inside+=" runc"
+! has runc containerd docker || inside+=" runc"
 ! has walk || desk=--desk
-if has containerd docker walk; then
+if has containerd docker; then
     packages=containerd daemons="usr/bin/containerd usr/bin/ctr usr/bin/containerd-shim-runc-v2" megabytes=512
 fi
-if has docker walk; then
+if has docker; then
     packages+=" docker.io" daemons+=" usr/sbin/dockerd usr/bin/docker" libraries=libdevmapper1.02.1
 fi
 needed="qemu-system-x86 cpio gcc libc6-dev $inside $libraries"

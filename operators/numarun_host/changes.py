@@ -106,8 +106,9 @@ def mend_all(turn: Turn) -> Steps[None]:
         if sighting.group.cpus != container.cpus or nodes_drifted(ledger, container, sighting):
             yield from mend(turn, container, sighting)
             continue
-        if (Topic.DRIFT, name) in ledger.unsaid and sighting.listed == container.seen.listed:
-            yield Say(ledger.problems[Topic.DRIFT, name].line, Level.WARNING)
+        problem = ledger.problems.get((Topic.DRIFT, name))
+        if problem and (Topic.DRIFT, name) in ledger.unsaid and sighting.listed == container.seen.listed:
+            yield Say(problem.line, Level.WARNING)
         ledger.settle(Topic.DRIFT, name)
         yield from compare_effective(turn, container, sighting)
 
