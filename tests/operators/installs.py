@@ -13,7 +13,7 @@ PREFIX = os.path.join(os.environ["SCRATCH"], "installed here")
 MACHINE = os.path.join(TOP, "examples", "machines", "two-socket.json")
 ANSWERS = os.path.join(TOP, "examples", "scripts", "before-and-after.answers")
 DATABASE = os.path.join(TOP, "examples", "bundles", "database")
-NAMES = ["agent", "describe", "draw-plan", "dry-run", "explain", "hook"]
+NAMES = ["agent", "describe", "draw-plan", "dry-run", "explain", "hook", "runc"]
 HERE = {**os.environ, "PROGRAM": PROGRAM}
 
 
