@@ -102,5 +102,13 @@ def requested(path):
     return read(f"{ROOT}/{path}/cpuset.cpus")
 
 
+def timed(step, *words):
+    """A step of a part, which may take minutes, so that its seconds are said."""
+    began = time.monotonic()
+    found = step(*words)
+    tree.say(f"{step.__name__} in {time.monotonic() - began:.0f} s")
+    return found
+
+
 def runs_on(pid, cpus):
     return tree.allowed(pid) == cpus

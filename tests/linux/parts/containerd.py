@@ -12,7 +12,7 @@ import tree
 import watched
 from of_containerd import ctr, process, remove, run, spec_with_list, update
 from tree import CPUS, ROOT, read, say
-from watched import requested, runs_on
+from watched import requested, runs_on, timed
 
 CONTAINERS, WRAPPER = "/run/numarun-containers", "/tmp/numarun-runc"
 # A BinaryName has no words of its own, so a script says them.
@@ -112,11 +112,11 @@ watched.begin()
 agent = watched.Agent("--runtime", "containerd", watch=None)
 agent.says("note no such folders yet: /run/containerd/runc")
 daemon = of_containerd.begin()
-web, packets = follows(agent)
-in_two_namespaces(agent)
-given_back(agent, web, packets)
-before_its_first_instruction()
-not_started()
+web, packets = timed(follows, agent)
+timed(in_two_namespaces, agent)
+timed(given_back, agent, web, packets)
+timed(before_its_first_instruction)
+timed(not_started)
 daemon.terminate()
 daemon.wait()
 assert "Traceback" not in read(watched.OUT), read(watched.OUT)[-2000:]

@@ -16,7 +16,7 @@ import tree
 import watched
 from of_docker import docker, process, remove, run
 from tree import CPUS, ROOT, read, say
-from watched import requested, runs_on
+from watched import requested, runs_on, timed
 
 CONTAINERS, WRAPPER = "/run/numarun-containers", "/usr/local/bin/numarun-runc"
 PAGES = {name: read(f"{tree.REPOSITORY}/{name}") for name in ("README.md", "operators/runtimes.md")}
@@ -160,12 +160,12 @@ def by_readme():
 
 watched.begin()
 containerd = of_containerd.begin()
-agent, daemon = begun()
-updated(agent)
-lives(agent)
-given_back(agent, daemon)
-before_its_first_instruction()
-by_readme()
+agent, daemon = timed(begun)
+timed(updated, agent)
+timed(lives, agent)
+timed(given_back, agent, daemon)
+timed(before_its_first_instruction)
+timed(by_readme)
 containerd.terminate()
 containerd.wait()
 assert "Traceback" not in read(watched.OUT), read(watched.OUT)[-2000:]

@@ -12,7 +12,7 @@ import tree
 import watched
 from of_runc import begin, bundle, delete, process, runc
 from tree import CPUS, ROOT, read, say
-from watched import requested, runs_on
+from watched import requested, runs_on, timed
 
 WRAPPER, CONTAINERS = f"{tree.REPOSITORY}/operators/numarun-runc", "/run/numarun-containers"
 
@@ -142,11 +142,11 @@ def before_its_first_instruction():
 
 
 watched.begin()
-agent, pids, group = follows()
-lives(agent, pids)
-broken(agent, pids)
-given_back(agent, pids, group)
-before_its_first_instruction()
+agent, pids, group = timed(follows)
+timed(lives, agent, pids)
+timed(broken, agent, pids)
+timed(given_back, agent, pids, group)
+timed(before_its_first_instruction)
 assert "Traceback" not in read(watched.OUT), read(watched.OUT)[-2000:]
 say(f"runc: {runc('--version').splitlines()[0]}: nine containers; limits, lists, a list that runc forgets, exec, kill, what is broken, and numarun-runc")
 tree.clear()
