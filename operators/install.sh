@@ -4,7 +4,7 @@
 #        operators/install.sh --deb FOLDER
 #
 # PREFIX/bin has numarun and the scripts: numarun-agent, numarun-draw-plan, numarun-dry-run, numarun-explain,
-# numarun-hook, numarun-describe. PREFIX/lib/systemd/system has a unit for the agent, which is not
+# numarun-hook, numarun-runc, numarun-describe. PREFIX/lib/systemd/system has a unit for the agent, which is not
 # enabled. PREFIX/share/man has the man pages; PREFIX/share/doc/numarun has the pages of operators/, docs/formats.md and, in examples/,
 # the bundles, machine files, scripts, certificates and problems, below the names that they have here. The program is the one that PROGRAM in the
 # environment names, or the proved one of this checkout, from bash build.sh.
@@ -20,7 +20,7 @@
 set -euo pipefail
 export LC_ALL=C
 top=$(cd "$(dirname "$(realpath "$0")")/.." && pwd)
-scripts=(agent draw-plan dry-run explain hook describe)
+scripts=(agent draw-plan dry-run explain hook runc describe)
 
 say() { echo "install.sh: $1" >&2; }
 fail() { say "$1"; exit 1; }

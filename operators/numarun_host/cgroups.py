@@ -158,9 +158,8 @@ def state_of_runtime(folder: str) -> Optional[Config]:
     return None
 
 
-def stated_group(folder: str) -> Optional[str]:
+def group_in(state: Optional[Config]) -> Optional[str]:
     """The group that a runtime's state names."""
-    state = state_of_runtime(folder)
     for names in (("cgroup-path",), ("cgroup_paths", "")):
         found = at(state, *names)
         if isinstance(found, str) and found:
@@ -174,11 +173,14 @@ def group_path(root: str, parent: str, name: str, config: Config, folder: Option
     found: object = told
     if found is None:
         path = at(config, "linux", "cgroupsPath")
-        found = (stated_group(folder) if folder is not None else None) or (scope_of(path) if isinstance(path, str) and path.count(":") == 2 else path)
-    text = found if isinstance(found, str) and found else f"{parent}/{name}"
-    if text.startswith(f"{root}/"):
-        text = text[len(root):]
-    return os.path.normpath(root + os.path.normpath(f"/{text}"))
+        found = (group_in(state_of_runtime(folder)) if folder is not None else None) or (scope_of(path) if isinstance(path, str) and path.count(":") == 2 else path)
+    return root + below_root(root, found if isinstance(found, str) and found else f"{parent}/{name}").rstrip("/")
+
+
+def below_root(root: str, path: str) -> str:
+    """A group's path as it is below the root of the tree, which may stand before it."""
+    text = path[len(root):] if path.startswith(f"{root}/") else path
+    return os.path.normpath(f"/{text}").replace("//", "/")
 
 
 def has_ended(folder: str) -> bool:

@@ -5,10 +5,10 @@ from __future__ import annotations
 import dataclasses
 from typing import List, Optional
 
-from .commands import Ask, Drop, Link, SaveTaken, Say, Steps, Taken, Tell, Unlink, Verb, Write
+from .commands import Ask, Drop, Level, Link, SaveTaken, Say, Steps, Taken, Tell, Unlink, Verb, Write
 from .configs import Demand, shared
 from .cpus import NO_CPUS, Cpus, print_list
-from .ledger import Container, Kind, Ledger, Sighting, State, Topic, report
+from .ledger import Container, Kind, Ledger, Problem, Sighting, State, Topic, report
 from .lifting import give_back_at_the_end
 from .newcomers import refuse, requested_by_untold
 from .placing import demand_of
@@ -73,7 +73,7 @@ def follow(turn: Turn, name: str, sighting: Sighting) -> Steps[bool]:
     if not ledger.is_over("update", "", turn.now):
         return False
     container = ledger.change(name, seen=sighting)
-    demand = demand_of(turn, sighting, container.home)
+    demand = demand_of(turn, sighting, container.home if sighting.listed == before.listed else None)
     if demand.config == (container.wanted or container.demand).config:
         return False
     if demand.count is None or container.given.count is None:
@@ -119,8 +119,7 @@ def mend_all(turn: Turn) -> Steps[None]:
         yield from mend(turn, container, turn.there[container.name])
     for container in told:
         if container not in drifted:
-            ledger.settle(Topic.DRIFT, container.name)
-        if container.name in ledger.containers:
+            yield from say_mended(turn, container)
             yield from compare_effective(turn, container, turn.there[container.name])
 
 
@@ -173,15 +172,16 @@ def mend(turn: Turn, container: Container, sighting: Sighting) -> Steps[None]:
         text = f"{ledger.title(name)} has {what}: another group requests some of these, and can't be told of yet"
         yield from report(ledger, Topic.DRIFT, name, Kind.DRIFT, text)
         return
-    yield from report(ledger, Topic.DRIFT, name, Kind.DRIFT, f"{ledger.title(name)} has {what}: that is written again")
+    yield from say_drift(ledger, container, sighting, f"{ledger.title(name)} has {what}: that is written again")
     yield from untell(ledger, name)
     yield Link(name, group.path)
     reply = yield from ask(ledger, Tell(Verb.ADOPT, name, container.given.config, cpus))
     turn.strays.pop(name, None)
     if reply.fault is None:
-        ledger.change(name, seen=dataclasses.replace(sighting, nodes=container.followed))
-        turn.there[name] = ledger.containers[name].seen
-        ledger.settle(Topic.DRIFT, name)
+        ledger.change(name, seen=dataclasses.replace(container.seen, group=group, nodes=container.followed))
+        turn.there[name] = dataclasses.replace(sighting, nodes=container.followed)
+        if (Topic.DRIFT, name) not in ledger.unsaid:  # else it is said at the next look
+            ledger.settle(Topic.DRIFT, name)
         return
     del ledger.containers[name]
     yield from refuse(turn, name, dataclasses.replace(sighting, stamp=None), reply)
@@ -192,6 +192,39 @@ def what_drifted(ledger: Ledger, container: Container, group: Group) -> str:
     if group.cpus != container.cpus:
         return f"{print_list(group.cpus)} in place of {print_list(container.cpus or NO_CPUS)}"
     return f"nodes {print_list(group.nodes or NO_CPUS)} in place of {print_list(written(ledger, container.nodes))}"
+
+
+def say_drift(ledger: Ledger, container: Container, sighting: Sighting, text: str) -> Steps[None]:
+    """Says that somebody wrote a group. By an update runc writes the list first, and then its state, by which the list is followed; so of
+    its containers that is said at the next look, unless the state has another list by then."""
+    key = Topic.DRIFT, container.name
+    if sighting.listed != container.seen.listed:
+        return
+    if sighting.told.listed is None or key in ledger.unsaid:
+        yield from report(ledger, *key, Kind.DRIFT, text)
+    elif key not in ledger.problems:
+        ledger.problems[key] = Problem(Kind.DRIFT, container.name, text)
+        ledger.unsaid.add(key)
+
+
+def say_mended(turn: Turn, container: Container) -> Steps[None]:
+    """Of one that has again what it was given: says of a drift what was left for this look, if its runtime's state has the same list."""
+    ledger, key = turn.ledger, (Topic.DRIFT, container.name)
+    problem = ledger.problems.get(key)
+    if problem and key in ledger.unsaid and turn.there[container.name].listed == container.seen.listed:
+        yield Say(problem.line, Level.WARNING)
+    ledger.settle(*key)
+
+
+def keep_lists(turn: Turn) -> None:
+    """Of whom its runtime gave another list, that is what its group requested, for --release and the next agent."""
+    ledger = turn.ledger
+    for container in ledger.containers.values():
+        seen, taken = container.seen, ledger.taken.get(container.seen.group.path)
+        text = seen.listed or seen.told.listed
+        if taken and text and taken.inode == seen.group.inode and (taken.listed or seen.listed) and (taken.cpus, taken.listed) != (text, bool(seen.listed)):
+            ledger.taken[seen.group.path] = dataclasses.replace(taken, cpus=text, listed=bool(seen.listed))
+            turn.unsaved = True
 
 
 def compare_effective(turn: Turn, container: Container, sighting: Sighting) -> Steps[None]:

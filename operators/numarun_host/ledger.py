@@ -44,8 +44,9 @@ class State(Enum):
 
 @dataclass(frozen=True)
 class Sighting:
-    """A container that is there, as it was seen. `limit` and `nodes` are those of its group where its config has others; with no stamp
-    its config can't be seen, and stands for what it has."""
+    """A container that is there, as it was seen. `limit` and `nodes` are those of its group where its config has others, and `listed` is
+    the list that an update by its runtime gave it in place of its config's; with no stamp its config can't be seen, and stands for
+    what it has."""
 
     told: Told
     stamp: Optional[Stamp]
@@ -56,11 +57,12 @@ class Sighting:
     age: int = 0
     stopped: bool = False
     near: Optional[int] = None  # the node of the device that it names
+    listed: Optional[str] = None
 
     @property
     def asks(self) -> Tuple[object, ...]:
         """What it asks for is the same as long as this is the same."""
-        return self.stamp, self.group.inode, self.limit, self.nodes, self.stopped
+        return self.stamp, self.group.inode, self.limit, self.nodes, self.stopped, self.listed
 
     @property
     def place(self) -> str:

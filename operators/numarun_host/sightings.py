@@ -6,7 +6,7 @@ import dataclasses
 from typing import Dict, Optional, Set, Tuple, Union
 
 from .commands import Steps
-from .configs import Limit, bare, nodes_named, other_limit
+from .configs import CPU, Limit, at, bare, nodes_named, other_limit, same_list
 from .cpus import NO_CPUS, Cpus
 from .ledger import CONTAINER_PAUSES, CONTAINER_TOPICS, Container, Kind, Ledger, Problem, Sighted, Sighting, Topic, report
 from .lifting import limit_of
@@ -69,7 +69,8 @@ def sighting_of(ledger: Ledger, name: str, found: Found) -> Sighting:
     container, taken, before = ledger.containers.get(name), ledger.taken.get(found.group.path), ledger.sighted.get(name)
     if before and before.found is found and before.container is container and before.taken is taken:
         return before.sighting
-    sighting = Sighting(found.told, found.stamp, found.config, found.group, *limits(ledger, name, found), found.age, found.stopped, found.near)
+    sighting = Sighting(found.told, found.stamp, found.config, found.group, *limits(ledger, name, found), found.age, found.stopped, found.near,
+                        list_of(ledger, found))
     if container and container.seen == sighting:
         sighting = container.seen
     ledger.sighted[name] = Sighted(found, container, taken, sighting)
@@ -85,6 +86,18 @@ def limits(ledger: Ledger, name: str, found: Found) -> Tuple[Optional[Limit], Op
     if not nodes or nodes == written(ledger, has) or not are_known(ledger, nodes):
         nodes = container.followed if container else None
     return other_limit(found.config, limit_of(ledger, found.group)), nodes
+
+
+def list_of(ledger: Ledger, found: Found) -> Optional[str]:
+    """The list of CPUs that an update by its runtime gave a container. runc has it in its state until the next update of something else,
+    by which it forgets it; so the last one is kept."""
+    group, told = found.group, found.told.listed
+    if found.told.is_system or not ledger.has_tree:
+        return None
+    if told:
+        return None if same_list(told, at(found.config, *CPU, "cpus")) else told
+    before = ledger.taken.get(group.path)
+    return before.cpus if before and before.listed and before.inode == group.inode else None
 
 
 def written(ledger: Ledger, nodes: Optional[Cpus]) -> Cpus:

@@ -9,7 +9,7 @@ import signal
 import subprocess
 
 from sites import IN_FOLDERS, QUOTA, Open, Site, untimed
-from numarun_host import cgroups, sources
+from numarun_host import cgroups, states
 from numarun_host.cpus import read_list
 from numarun_host.program import Run
 from numarun_host.script import Refused
@@ -442,7 +442,7 @@ def places():
             json.dump(file[1], open(os.path.join(state, file[0]), "w"))
         check(f"the group of {config} {file}", cgroups.group_path(site.at("root"), "numarun", "c", config, state, None), site.at("root", expected))
     json.dump({"config": {"labels": ["x=y", "bundle=/some/where"]}}, open(os.path.join(state, "state.json"), "w"))
-    check("runc's bundle", sources.bundle_of(state), "/some/where")
+    check("runc's bundle", states.kept_in(state, "/"), states.Kept("/some/where", by_runtime=True))
 
 
 @long_case

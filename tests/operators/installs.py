@@ -11,7 +11,8 @@ PREFIX = scratch("installed here")
 MACHINE = os.path.join(TOP, "examples", "machines", "two-socket.json")
 ANSWERS = os.path.join(TOP, "examples", "scripts", "before-and-after.answers")
 DATABASE = os.path.join(TOP, "examples", "bundles", "database")
-NAMES = ["agent", "describe", "draw-plan", "dry-run", "explain", "hook"]
+OF_THE_HOST, AT_A_DESK = ["agent", "hook", "runc"], ["describe", "draw-plan", "dry-run", "explain"]
+NAMES = sorted(OF_THE_HOST + AT_A_DESK)
 HERE = {**os.environ, "PROGRAM": PROGRAM}
 
 
@@ -58,11 +59,11 @@ def what_is_there():
     first = standing()
     check("the commands", sorted(name for name in os.listdir(os.path.join(PREFIX, "bin"))), ["numarun"] + [f"numarun-{name}" for name in NAMES] + ["other"])
     pages = [name for name in first if name.startswith("share/") and not name.endswith("/")]
-    kept = [os.path.relpath(os.path.join(folder, name), TOP) for of in ("bundles", "machines", "scripts") for folder, _, names in os.walk(os.path.join(TOP, "examples", of)) for name in names]
+    kept = [os.path.relpath(os.path.join(folder, name), TOP) for of in ("bundles", "dashboards", "machines", "scripts") for folder, _, names in os.walk(os.path.join(TOP, "examples", of)) for name in names]
     kept += ["operators/" + name for name in os.listdir(OPERATORS) if name.endswith(".md")]
     kept += ["docs/formats.md", "docs/two-socket.svg", "examples/caches.certificate", "examples/caches.problem", "examples/two-containers.certificate"]
-    check("the pages", sorted(pages), sorted([f"share/doc/numarun/{name}" for name in kept] +
-          ["share/man/man1/numarun.1", "share/man/man8/numarun-agent.8", "share/man/man8/numarun-hook.8"]))
+    manual = ["man1/numarun.1", *(f"man1/numarun-{name}.1" for name in AT_A_DESK), *(f"man8/numarun-{name}.8" for name in OF_THE_HOST)]
+    check("the pages", sorted(pages), sorted([f"share/doc/numarun/{name}" for name in kept] + [f"share/man/{name}" for name in manual]))
     listed = open(os.path.join(PREFIX, "lib", "numarun", "installed")).read().splitlines()
     check("the list is what is new", sorted(listed), sorted(set(first) - set(before)))
     check("the unit alone names the prefix", [name for name, told in first.items() if told and PREFIX in str(told[0])],

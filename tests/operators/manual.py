@@ -1,4 +1,4 @@
-"""Compares the man page with the help that the program prints: its words are the help's. The pages of the agent and of the hook name options
+"""Compares the man page with the help that the program prints: its words are the help's. The pages of the scripts name options
 that there are. mandoc looks at them, where it is."""
 
 import os
@@ -10,7 +10,7 @@ from trial import OPERATORS, PROGRAM, TOP, case, check
 from trial import told as said
 
 PAGE = os.path.join(TOP, "docs", "numarun.1")
-PAGES = [os.path.join(OPERATORS, name) for name in ("numarun-agent.8", "numarun-hook.8")]
+PAGES = sorted(os.path.join(OPERATORS, name) for name in os.listdir(OPERATORS) if name.endswith((".1", ".8")))
 
 
 def helped(*words):
@@ -52,10 +52,12 @@ def of_the_program():
 @case
 def of_the_scripts():
     for path in PAGES:
-        helps = said(os.path.basename(path)[:-2], "--help")[1]
-        options = re.findall(r"^\.It Fl (-[a-z-]+)", open(path).read(), re.M)
-        check(f"options of {os.path.basename(path)}", [option for option in options if f"-{option} " not in helps], [])
-        check("and there are some", len(options) > 2, True)
+        name = os.path.basename(path)
+        kinds = (("host",), ("hwloc",)) if name == "numarun-describe.1" else ((),)
+        helps = "".join(said(name[:-2], *kind, "--help")[1] for kind in kinds)
+        options = [option for line in open(path) if line.startswith(".It") for option in re.findall(r"Fl (-[a-z-]+)", line)]
+        check(f"options of {name}", [option for option in options if not re.search(f"-{option}[ =]", helps)], [])
+        check(f"{name} has some", bool(options), True)
 
 
 @case

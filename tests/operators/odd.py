@@ -19,6 +19,7 @@ from numarun_host import answers, explain
 from numarun_host.hooks import near
 from numarun_host.machine import Machine
 from numarun_host.script import Refused
+from numarun_host.sources import is_word
 
 COUNT = 200
 SEED = 20261129
@@ -196,7 +197,7 @@ def folders() -> None:
     lines = run_of(site)
     goes_on(site, lines)
     refused = of(lines, "refused E91 BadId: ", "absent ")
-    shown = {"".join(sign if sign.isprintable() else ascii(sign)[1:-1] for sign in name) for name in bad}
+    shown = {name if is_word(name) else ascii(name) for name in bad}
     check("named by no line", [name for name in shown if not any(name in line for line in refused)], [])
 
 

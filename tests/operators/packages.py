@@ -54,8 +54,9 @@ def goes_on():
     os.mkdir(site.at("second"))
     site.come("b", 1)
     os.rename(site.at("g/b"), site.at("second/b"))
-    paths = {"/etc/numarun/machine.json": site.at("machine.json"), "/sys/fs/cgroup": site.at("root"), "/run/crun": site.at("g")}
+    paths = {"/etc/numarun/machine.json": site.at("machine.json"), "/sys/fs/cgroup": site.at("root"), "/etc/numarun/services": site.at("g"), "all": "docker"}
     words = begun(unit, f"--watch {site.at('second')} --rest more.slice", **paths)
+    check("all runtimes", "--runtime all" in unit["Service"]["ExecStart"], True)
     check("its path", words[0], os.path.join(prefix, "bin", "numarun-agent"))
     ran = subprocess.run([*words, *WORDS, "--online", site.at("online"), "--work", site.at("work"), "--rounds", "1"], capture_output=True)
     check("OPTIONS adds", (ran.returncode, site.has("a", "b"), site.file("system.slice"), site.file("more.slice")), (0, ["1-2", "3"], "0,4-7", "0,4-7"))
@@ -91,7 +92,7 @@ def by_the_page():
     check("a machine file with cores", "cores" in json.load(open(machine)), True)
     check("the unit", open(os.path.join(etc, "systemctl")).read(), "enable --now numarun-agent\n")
     site = Site()
-    words = begun(unit_of(prefix), "", **{"/etc/numarun/machine.json": machine, "/sys/fs/cgroup": site.at("root"), "/run/crun": site.at("no-such")})
+    words = begun(unit_of(prefix), "", **{"/etc/numarun/machine.json": machine, "/sys/fs/cgroup": site.at("root"), "/etc/numarun/services": site.at("no-such"), "all": "docker"})
     ran = subprocess.run([*words, *WORDS, "--work", site.at("work"), "--rounds", "3"], capture_output=True)
     check("it starts", (ran.returncode, ran.stdout.decode().count("refused"), ran.stderr), (0, 0, b""))
 

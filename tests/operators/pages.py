@@ -23,9 +23,9 @@ PREFIX = scratch("pages installed")
 DOC = os.path.join(PREFIX, "share", "doc", "numarun")
 PACKAGE = pathlib.Path(OPERATORS) / "numarun_host"
 PAGES: Dict[str, str] = {path.name: path.read_text() for path in pathlib.Path(OPERATORS).glob("*.md")}
-PROGRAMS = ("numarun-agent", "numarun-agent status", "numarun-hook", "numarun-dry-run", "numarun-explain", "numarun-draw-plan", "numarun-describe host",
+PROGRAMS = ("numarun-agent", "numarun-agent status", "numarun-agent add-service", "numarun-hook", "numarun-runc", "numarun-dry-run", "numarun-explain", "numarun-draw-plan", "numarun-describe host",
             "numarun-describe hwloc", "install.sh")
-OF_OTHERS = {"--annotation", "--env", "--of", "--disallowed", "--now", "--sort", "--cpu-quota"}  # options of other programs
+OF_OTHERS = {"--annotation", "--env", "--of", "--disallowed", "--now", "--sort", "--cpu-quota", "--name", "--root", "--runc-binary", "--cgroup-parent", "--memory"}  # options of other programs
 OF_THE_SYSTEM = {"No such file or directory", "No space left on device"}
 OPTION = re.compile(r"(?<![\w-])--[a-z][a-z-]+")
 
@@ -153,7 +153,7 @@ def ten_minutes() -> None:
     agent.end()
     first = next(block for block in blocks("README.md", "sh") if "--rounds" in block).strip()
     has = site.has("db")
-    line = first.replace("/etc/numarun/machine.json", site.at("machine.json")).replace("/run/crun", site.at("g"))
+    line = first.replace("/etc/numarun/machine.json", site.at("machine.json")).replace("--runtime all", f"--watch {site.at('g')}")
     found = typed(f"{line} --online {site.at('online')}")
     check("and what is seen first", (found[0], "".join(f"{line}\n" for line in untimed(found[1])).replace(site.at("g"), "/run/crun")), (0, shown[0]))
     check("which writes nothing", site.has("db"), has)
@@ -161,13 +161,19 @@ def ten_minutes() -> None:
 
 @case
 def a_service() -> None:
-    """What the page says to type makes a service one of the containers, and the others of its slice are held on the pool."""
+    """What the page says to type makes a service one of the containers, by both of its ways, and the others of its slice are held on the
+    pool."""
     site = two_sockets()
     site.online("0-31")
     for group in ("system.slice", "system.slice/postgresql.service", "system.slice/ssh.service"):
         site.make_group(None, group=group)
-    block = next(block for block in blocks("runtimes.md", "sh") if "postgresql" in block)
+    short, block = (block for block in blocks("runtimes.md", "sh") if "postgresql" in block)
+    folder = site.at("etc/services/postgresql")
+    check("the short way", typed(f"{short.strip()} --services {site.at('etc/services')} --cgroup {site.at('root')}"),
+          (0, f"{folder}: postgresql.service at /system.slice/postgresql.service\n"))
+    by_hand = {name: json.load(open(os.path.join(folder, name))) for name in ("status", "config.json")}
     check("typed", typed(f"set -e\n{block}".replace("/etc/numarun", site.at("etc"))), (0, ""))
+    check("the same by hand", {name: json.load(open(os.path.join(folder, name))) for name in by_hand}, by_hand)
     status, lines = site.run("--defaults", "--watch", site.at("etc/services"), "--rest", "system.slice")
     named = "hold postgresql 1-2,17-18"
     check("pinned", (status, named in lines, f"`{named}`" in PAGES["runtimes.md"]), (0, True, True))
@@ -176,8 +182,9 @@ def a_service() -> None:
 
 @case
 def a_hook() -> None:
-    block = next(blocks("runtimes.md", "json"))
+    block, daemon = blocks("runtimes.md", "json")
     check("the hook", json.loads(block)["hook"]["path"], "/usr/local/bin/numarun-hook")
+    check("docker's runtime", json.loads(daemon)["runtimes"]["numarun"]["path"], "/usr/local/bin/numarun-runc")
     script = scratch("pool")
     with open(script, "w") as file:
         file.write(next(block for block in blocks("safety.md", "sh") if block.startswith("#!")))

@@ -14,7 +14,7 @@ have() {
 }
 
 cd "$top/operators"
-programs=(numarun-agent numarun-hook numarun-dry-run numarun-explain numarun-draw-plan numarun-describe)
+programs=(numarun-agent numarun-hook numarun-dry-run numarun-explain numarun-draw-plan numarun-describe numarun-runc)
 if have mypy mypy; then
     mypy --strict --no-error-summary --cache-dir=/dev/null --scripts-are-modules numarun_host "${programs[@]}"
 fi
