@@ -167,7 +167,8 @@ def taken_away_by_then() -> None:
 
 @case
 def records() -> None:
-    """What is kept has a fifth member where a limit is lifted; others, and what is none, are read as without."""
+    """What is kept has a fifth member where a limit is lifted, and names the groups whose CPUs are a runtime's list; others, and what is none, are
+    read as without."""
     site = Site()
     os.makedirs(site.at("work"))
     inode = os.stat(site.folder).st_ino
@@ -177,8 +178,11 @@ def records() -> None:
         taken = read_record(site.at("work")).groups[site.folder]
         check(f"read {members}", taken, Taken(inode, "", "", False, expected))
     record = read_record(site.at("work"))
-    record.save({site.folder: Taken(inode, "1", "", False, (7, 8)), "/x": Taken(2, None, "", True)})
-    check("and written", json.load(open(site.at("work/taken.json")))["groups"], {site.folder: [inode, "1", "", False, [7, 8]], "/x": [2, None, "", True]})
+    both = Taken(inode, "1", "", False, (7, 8), True)
+    record.save({site.folder: both, "/x": Taken(2, None, "", True)})
+    found = json.load(open(site.at("work/taken.json")))
+    check("and written", (found["groups"], found["listed"]), ({site.folder: [inode, "1", "", False, [7, 8]], "/x": [2, None, "", True]}, [site.folder]))
+    check("and read", read_record(site.at("work")).groups, {site.folder: both})
 
 
 # By chance.

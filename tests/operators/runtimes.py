@@ -14,6 +14,7 @@ from numarun_host.decide import say_silent
 from numarun_host.ledger import Ledger, Settings
 from numarun_host.machine import Machine
 from numarun_host.runtimes import FOLDERS, NAMES, Runtime, Watch, watches_of
+from numarun_host.taken import read_record
 from trial import OPERATORS, case, check, refuses, scratch, told, words_and_help, written
 
 WRAPPER = os.path.join(OPERATORS, "numarun-runc")
@@ -152,6 +153,33 @@ def a_list_and_a_limit():
     lines = agent.until("hold a") + agent.until("done")
     check("both", (len(site.has("a")[0].replace("-", "")) > 1, [line for line in lines if line.startswith("hold")][:1]), (True, ["hold a 1-3"]))
     agent.end()
+
+
+KILLED_AT = "if line.startswith(begins) and os.path.exists(armed):\n    os.remove(armed)\n    os.kill(os.getppid(), signal.SIGKILL)"
+
+
+@case
+def listed_and_lifted():
+    """An update's list is followed of one whose limit is lifted, wherever the agent is killed meanwhile: what is kept has both, also once runc
+    has forgotten the list, and a release gives both back."""
+    for begins in ("kill pk", "adopt pk", "update pk", "begin", "step"):
+        site = Site()
+        words = ("--watch", site.at("runc"), "--lift")
+        with_runc(site, "pk", "6-7", has="6-7")
+        site.put("numarun/pk", "cpu.max", "200000 100000")
+        agent = Open(site, *words, *site.stand_in(KILLED_AT, begins=begins.encode(), armed=site.at("armed")))
+        agent.until("lift pk")
+        written(site.at("armed"), "")
+        update(site, "pk", "4-5", writes=True)
+        check(f"killed at {begins}", (agent.process.wait(), os.path.exists(site.at("armed"))), (-9, False))
+        for cpus in ("4-5", ""):
+            update(site, "pk", cpus)
+            status, lines = site.run(*words, rounds="3")
+            taken = read_record(site.at("work")).groups[site.at("root/numarun/pk")]
+            check(f"killed at {begins}, and runc's list is {cpus!r}", (status, site.has("pk"), site.file("numarun/pk", "cpu.max"), taken.cpus, taken.limit, taken.listed),
+                  (0, ["4-5"], "max", "4-5", (200000, 100000), True))
+        words = ("release", "--cgroup", site.at("root"), "--work", site.at("work"))
+        check("given back", (told("numarun-agent", *words)[0], site.has("pk"), site.file("numarun/pk", "cpu.max")), (0, ["4-5"], "200000 100000"))
 
 
 @case

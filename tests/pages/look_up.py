@@ -43,13 +43,19 @@ def links(path: pathlib.Path, text: str, texts: dict[pathlib.Path, str]) -> Iter
             yield f"{link}: no such heading"
 
 
+def is_case(name: str) -> bool:
+    """Whether it is a file of a test's cases, or one of these, as tests/run has them."""
+    file, _, case = name.rpartition("/")
+    whole, cases = (TOP / "tests" / f"{path}.py" for path in (name, file))
+    return whole.exists() or (cases.exists() and f"\ndef {case}(" in cases.read_text(encoding="utf-8"))
+
+
 def paths(text: str) -> Iterator[str]:
     """Paths in backticks, and words of shell blocks, that are not there."""
     shell = "\n".join(body for kind, body in BLOCK.findall(text) if kind == "sh")
     named = PATH.findall(re.sub(BLOCK, "", text)) + re.findall(r"(?<![\w./-])((?:%s)/[\w./+-]+)" % "|".join(FOLDERS[:-1]), shell)
     for name in named:
-        is_case = (TOP / "tests" / f"{name}.py").exists()  # a test and one of its cases, as tests/run has them
-        if not MADE.search(name) and "NAME" not in name and "CRATE" not in name and not (TOP / name).exists() and not is_case:
+        if not MADE.search(name) and "NAME" not in name and "CRATE" not in name and not (TOP / name).exists() and not is_case(name):
             yield f"{name} is not there"
 
 
