@@ -13,6 +13,7 @@ WORDS = ("--rest", "/", "--lift")
 POD, FREE, APART = "machine.slice/libpod-pod.scope", "numarun/free", "apart"
 OTHERS = ("system.slice/sshd.service", "odd.mount", "init.scope")
 LEFT = CPUS - {7}  # 7 is the partition's
+GOING = (4, 5, 6)  # with these off somebody has to wait
 
 
 def limit(path):
@@ -58,11 +59,11 @@ assert len(own(POD)) == 3, own(POD)
 agent.end()
 agent = watched.Agent(*WORDS)
 agent.until(lambda: all_hold(pinned, others), "and one that does")
-for cpu in (6, 5, 4):
-    tree.turn(cpu, False)
+for cpu in GOING:
+    assert not write(f"{tree.CPU}/cpu{cpu}/online", "0")
 agent.until(lambda: limit(POD) == "300000 100000" or limit(FREE) == "100000 100000", "one that waits, since CPUs went")
-for cpu in (4, 5, 6):
-    tree.turn(cpu, True)
+for cpu in GOING:
+    assert not write(f"{tree.CPU}/cpu{cpu}/online", "1")
 agent.until(lambda: all_hold(pinned, others), "and has room again")
 agent.end()
 done = watched.release()
