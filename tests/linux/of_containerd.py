@@ -8,6 +8,7 @@ import subprocess
 import tree
 from tree import ROOT, read
 
+SECONDS = 600  # that each command has; an emulated machine may have little of a processor
 ROOTFS, OUT, LOG = "/tmp/box", "/tmp/ctr-out", "/tmp/containerd-log"
 CONFIG = """version = 2
 disabled_plugins = ["io.containerd.grpc.v1.cri", "io.containerd.snapshotter.v1.devmapper", "io.containerd.snapshotter.v1.zfs"]
@@ -38,7 +39,7 @@ def answers():
 def ctr(*words, namespace="default", status=0):
     """What ctr says. It goes through a file, since a container that runs on keeps a pipe open."""
     with open(OUT, "w") as out:
-        done = subprocess.run(["/app/ctr", "--namespace", namespace, *words], stdin=subprocess.DEVNULL, stdout=out, stderr=subprocess.STDOUT)
+        done = subprocess.run(["/app/ctr", "--namespace", namespace, *words], stdin=subprocess.DEVNULL, stdout=out, stderr=subprocess.STDOUT, timeout=SECONDS)
     assert done.returncode == status, (words, done.returncode, read(OUT), read(LOG)[-2000:])
     return read(OUT)
 

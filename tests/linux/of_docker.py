@@ -9,6 +9,7 @@ import tarfile
 import tree
 from tree import ROOT, read
 
+SECONDS = 600  # that each command has; an emulated machine may have little of a processor
 IMAGE, OUT, LOG = "box", "/tmp/docker-out", "/tmp/dockerd-log"
 DAEMON = ["/app/dockerd", "--bridge", "none", "--iptables=false", "--storage-driver", "vfs", "--exec-opt", "native.cgroupdriver=cgroupfs",
           "--containerd", "/run/containerd/containerd.sock"]
@@ -40,7 +41,7 @@ def answers():
 def docker(*words, status=0):
     """What docker says. It goes through a file, since a container that runs on keeps a pipe open."""
     with open(OUT, "w") as out:
-        done = subprocess.run(["/app/docker", *words], stdin=subprocess.DEVNULL, stdout=out, stderr=subprocess.STDOUT, env=HERE)
+        done = subprocess.run(["/app/docker", *words], stdin=subprocess.DEVNULL, stdout=out, stderr=subprocess.STDOUT, env=HERE, timeout=SECONDS)
     assert done.returncode == status, (words, done.returncode, read(OUT), read(LOG)[-2000:])
     return read(OUT)
 

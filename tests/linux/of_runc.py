@@ -7,6 +7,7 @@ import subprocess
 
 from tree import ROOT, read
 
+SECONDS = 600  # that each command has; an emulated machine may have little of a processor
 BUNDLES, OUT = "/tmp/of-runc", "/tmp/of-runc-out"
 
 
@@ -32,7 +33,7 @@ def bundle(name, section, folder=BUNDLES, **more):
 def runc(*words, program="/app/runc", status=0):
     """What runc says. It goes through a file, since a container that runs on keeps a pipe open."""
     with open(OUT, "w") as out:
-        done = subprocess.run([program, *words], stdin=subprocess.DEVNULL, stdout=out, stderr=subprocess.STDOUT)
+        done = subprocess.run([program, *words], stdin=subprocess.DEVNULL, stdout=out, stderr=subprocess.STDOUT, timeout=SECONDS)
     assert done.returncode == status, (words, done.returncode, read(OUT))
     return read(OUT)
 
