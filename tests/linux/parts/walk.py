@@ -180,7 +180,7 @@ def by_readme():
     assert tree.allowed(pid) == {2, 3}
     assert typed(command("operators/numarun-dry-run host.json")).startswith("new would have 4"), read(OUT)
     ended(agent)
-    typed(command("operators/numarun-agent --release"))
+    typed(command("operators/numarun-agent release"))
     assert tree.allowed(pid) == tree.CPUS, read(OUT)
     crun("delete", "--force", "first")
 
