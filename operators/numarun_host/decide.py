@@ -20,7 +20,6 @@ from .sightings import see_all
 from .slices import let_go
 from .telling import Turn, ask
 
-
 NO_FOLDER = ""  # of no folder's path
 
 

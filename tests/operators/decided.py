@@ -275,7 +275,8 @@ def homes_said() -> None:
         ({}, asks(1, mems="1"), None, None, (["home a 1"], cpus("1"))), ({}, asks(1, mems="1"), cpus("1"), None, ([], cpus("1"))),
         ({}, asks(1, mems="1"), cpus("2"), None, (["home a 1"], cpus("1"))), ({}, asks(1), cpus("1"), None, ([], None)),
         (config_of(mems="1"), asks(1, mems="1"), None, None, ([], None)), (near, asks(1, mems="2"), None, 2, (["home a 2: eth0 is there"], cpus("2"))),
-        (near, asks(1, mems="2"), None, 3, (["home a 2"], cpus("2"))),
+        (near, asks(1, mems="2"), None, 3, (["home a 2: eth0 is at node 3, whose memory it may not have"], cpus("2"))),
+        (near, asks(1, mems="2"), None, None, (["home a 2: eth0 is at no node of this machine"], cpus("2"))),
     )
     for config, demand, had, near_node, expected in table:
         one = container("a", State.PINNED, 1, home=had, demand=Demand(demand, 1), seen=dataclasses.replace(sighting(config=config), near=near_node))
@@ -306,8 +307,8 @@ def held_groups() -> None:
     """A group above a pinned container is let go, those beside the way are held, and what is below a container is its own."""
     groups = tree(s_slice="", s_slice__a="", s_slice__b="", u_slice="")
     below = {"/t/s.slice": ("a", "b"), "/t/s.slice/b": ()}
-    ledger = ledger_of(slices=("s.slice", "u.slice", "gone.slice"))
-    turn = Turn(ledger, Look(0.0, groups=groups, below=below))
+    ledger, named = ledger_of(), ("s.slice", "u.slice", "gone.slice")
+    turn = Turn(ledger, Look(0.0, groups=groups, slices=named, below=below))
     check("nobody is below", sorted(slices.rest_of(turn)[0]), ["s.slice", "u.slice"])
     turn.there["c"] = sighting("/t/s.slice/b/c", asks(1))
     rest, on_the_way = slices.rest_of(turn)
@@ -320,7 +321,8 @@ def held_groups() -> None:
     check("one that is told", sorted(slices.rest_of(turn)[0]), ["s.slice+a", "u.slice"])
     turn.there["d"] = sighting("/t/u.slice")
     check("a container is none of them", sorted(slices.rest_of(turn)[0]), ["s.slice+a"])
-    turn.look = Look(0.0, groups={**groups, "/t/u.slice": NoGroup("no cpuset.cpus in it", folder=True), "/t/gone.slice": NoGroup("gone")}, below=below)
+    others = {"/t/u.slice": NoGroup("no cpuset.cpus in it", folder=True), "/t/gone.slice": NoGroup("gone")}
+    turn.look = Look(0.0, groups={**groups, **others}, slices=named, below=below)
     del turn.there["d"]
     found = slices.rest_of(turn)[0]
     check("without a file", (isinstance(found["u.slice"], Missing), "gone.slice" in found), (True, False))
@@ -332,9 +334,9 @@ def held_groups() -> None:
 def groups_let_go() -> None:
     """A group that is held no more has all CPUs; where that fails the reason is said once."""
     groups = tree(s_slice="0,3", u_slice="0-7", w_slice="", v="0,3")
-    ledger = ledger_of(slices=("s.slice", "u.slice", "w.slice"))
+    ledger = ledger_of()
     ledger.taken = {path: Taken(1, "", "", path != "/t/v") for path in groups}
-    turn = Turn(ledger, Look(0.0, groups=groups))
+    turn = Turn(ledger, Look(0.0, groups=groups, slices=("s.slice", "u.slice", "w.slice")))
     commands, _ = done(slices.let_go(turn))
     writes = [(command.path, command.file, command.text) for command in commands if isinstance(command, Write)]
     check("writes", writes, [("/t/s.slice", "cpuset.cpus", ""), ("/t/s.slice", "cpuset.mems", "")])

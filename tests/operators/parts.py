@@ -100,11 +100,11 @@ def states_at_first() -> None:
 @case
 def told_in_order() -> None:
     """Those of whom something was kept come first, in that order, then the older ones; the system's own last. What they had is kept before any write."""
-    ledger = ledger_of(slices=("s.slice",))
+    ledger = ledger_of()
     ledger.taken = {"/t/d": Taken(7, "", "", False), "/t/c": Taken(7, "", "", False)}
     told = {name: found(name, config_of(), age=age) for name, age in (("a", 9), ("b", 5), ("c", 9), ("d", 9))}
     groups = {**groups_of(*told.values()), "/t/s.slice": Group("/t/s.slice", 7, texts=("", "0"))}
-    commands, after = looked(ledger, told=told, groups=groups)
+    commands, after = looked(ledger, told=told, groups=groups, slices=("s.slice",))
     check("the order", [line.split(" ")[1] for line in told_of(commands)], ["d", "c", "b", "a", "s.slice"])
     kinds = [type(command) for command in commands if isinstance(command, (SaveTaken, Link))]
     check("kept first", kinds[:2], [SaveTaken, Link])
@@ -112,7 +112,7 @@ def told_in_order() -> None:
           {"/t/a": ("", "", False), "/t/s.slice": ("", "0", True)})
     told = as_given(told, after)
     groups = {**groups_of(*told.values()), "/t/s.slice": Group("/t/s.slice", 7, cpus("0-7"))}
-    commands, _ = looked(after, told=told, groups=groups)
+    commands, _ = looked(after, told=told, groups=groups, slices=("s.slice",))
     check("once", told_of(commands), [])
 
 
