@@ -69,24 +69,24 @@ def hooked():
 def answered():
     """A container begins when it has its CPUs, or when it is told that there is no place."""
     site = Site()
-    agent = Open(site, "--watch", site.at("told"), "--pause", "20")
+    agent = Open(site, "--watch", site.at("told"), "--pause", "600")
     while not os.path.exists(site.at("work/machine.json")):
         time.sleep(0.05)
     prepared(site, "a", 2)
     began = time.monotonic()
-    check("its CPUs", ended(begun(site, "a", "--wait", "15")), (0, "pinned a 1-2\n", ""))
-    check("at once, and not at the next look", (time.monotonic() - began < 10, site.has("a")), (True, ["1-2"]))
+    check("its CPUs", ended(begun(site, "a", "--wait", "120")), (0, "pinned a 1-2\n", ""))
+    check("at once, and not at the next look", (time.monotonic() - began < 300, site.has("a")), (True, ["1-2"]))
     prepared(site, "s")
-    check("one that asks for none", ended(begun(site, "s", "--wait", "15"))[1], "shared s 0,3-7\n")
+    check("one that asks for none", ended(begun(site, "s", "--wait", "120"))[1], "shared s 0,3-7\n")
     prepared(site, "big", 7)
-    status, out, err = ended(begun(site, "big", "--wait", "15"))
+    status, out, err = ended(begun(site, "big", "--wait", "120"))
     check("no place", (status, out, err), (0, "no place waits big: short demand 9 allowed 1-7: it runs on the pool until there is room\n", ""))
     check("it is told", os.path.isdir(site.at("told/big")), True)
     prepared(site, "must", 7)
-    status, out, err = ended(begun(site, "must", "--wait", "15", "--need-place"))
+    status, out, err = ended(begun(site, "must", "--wait", "120", "--need-place"))
     check("no place for one that needs it", (status, out, err.startswith("numarun-hook: no place waits must"), os.path.exists(site.at("told/must"))), (1, "", True, False))
     prepared(site, "bad", linux={"resources": {"cpu": {"mems": "7"}}})
-    status, out, err = ended(begun(site, "bad", "--wait", "15"))
+    status, out, err = ended(begun(site, "bad", "--wait", "120"))
     check("refused", (status, out, err), (1, "", f"numarun-hook: refused E65 NoSuchNode 7: bad {site.at('told/bad')}: it runs on the pool\n"))
     check("it ends", agent.end()[0], 1)
 
@@ -99,14 +99,14 @@ def in_time():
     status, out, err = ended(begun(site, "a", "--wait", "0.5"))
     says = f"numarun-hook: {site.at('work/hooks')}: the agent has not answered of a in 0.5 s\n"
     check("no agent", (status, out, err, os.listdir(site.at("told"))), (1, "", says, []))
-    hook = begun(site, "a", "--wait", "60")
+    hook = begun(site, "a", "--wait", "120")
     time.sleep(0.3)
     agent = Open(site, "--watch", site.at("told"))
     check("one that comes", ended(hook), (0, "pinned a 1-2\n", ""))
     agent.process.kill()
     agent.process.wait()
     prepared(site, "b", 1)
-    hook = begun(site, "b", "--wait", "60")
+    hook = begun(site, "b", "--wait", "120")
     time.sleep(0.3)
     agent = Open(site, "--watch", site.at("told"))
     check("and one that comes back", ended(hook), (0, "pinned b 3\n", ""))
@@ -120,7 +120,7 @@ def far_away():
     prepared(site, "a", 2)
     work = site.at("w" * 120)
     agent = Open(site, "--watch", site.at("told"), "--work", work)
-    check("a long name", ended(begun(site, "a", "--agent", f"{work}/hooks", "--wait", "60")), (0, "pinned a 1-2\n", ""))
+    check("a long name", ended(begun(site, "a", "--agent", f"{work}/hooks", "--wait", "120")), (0, "pinned a 1-2\n", ""))
     agent.end(signal.SIGTERM)
 
 
@@ -132,7 +132,9 @@ def status():
         site.come(name, cpus)
     agent = Open(site)
     agent.until("done")
-    found, out, err = told("numarun-agent", "status", "--agent", site.at("work/hooks"))
+    found, until = 1, time.monotonic() + 120
+    while found and time.monotonic() < until:  # an agent that has much to do may not answer in time
+        found, out, err = told("numarun-agent", "status", "--agent", site.at("work/hooks"))
     lines = [line.split() for line in out.splitlines()]
     check("a table", (found, err, lines[0], lines[1], lines[3:7]), (0, "", ["pool", "0,3-7,", "reserved", "0,", "offline", "-"], ["plan", "total", "20"], [
         ["container", "state", "CPUs", "nodes", "asks", "why"], ["a", "pinned", "1-2", "0", "2"], ["s", "shared", "0,3-7", "0", "-"],

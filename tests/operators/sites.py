@@ -2,6 +2,7 @@
 
 from __future__ import annotations
 
+import contextlib
 import json
 import os
 import signal
@@ -9,13 +10,13 @@ import subprocess
 import sys
 import textwrap
 import threading
-from typing import Any, Dict, List, Mapping, Optional, Tuple, Union
+from typing import IO, Any, Dict, Iterator, List, Mapping, Optional, Tuple, Union
 
 from trial import OPERATORS, TOP, check, command, scratch, text_of, told, written
 
 IN_FOLDERS = os.path.join(os.path.dirname(os.path.abspath(__file__)), "in_folders.sh")
 QUOTA = 100000
-PATIENCE = 60  # seconds in which a line comes that is waited for
+PATIENCE = 120  # seconds in which a line comes that is waited for, on the slowest machine
 EIGHT_CPUS: Mapping[str, object] = {"nodes": ["0-7"], "distances": [[10]], "reserved": "0"}
 # By hand each container that asks for CPUs gets some, however few are left.
 ALL_PINNED = ("--pin", "all", "--pool-least", "0")
@@ -171,9 +172,18 @@ class Open:
         here = {**os.environ, "GROUPS_LOG": site.at("log")}
         self.process = subprocess.Popen(words, stdin=stdin, stdout=subprocess.PIPE, text=True, cwd=TOP, env=here)
         self.lines: List[str] = []
-        self.watch = threading.Timer(PATIENCE, self.process.kill)
-        self.watch.daemon = True
-        self.watch.start()
+
+    @contextlib.contextmanager
+    def watched(self) -> Iterator[IO[str]]:
+        """What it says, for a time; where that does not come to an end it is killed."""
+        assert self.process.stdout
+        watch = threading.Timer(PATIENCE, self.process.kill)
+        watch.daemon = True
+        watch.start()
+        try:
+            yield self.process.stdout
+        finally:
+            watch.cancel()
 
     def tell(self, text: str) -> None:
         """Lines for its standard input."""
@@ -183,21 +193,20 @@ class Open:
 
     def until(self, beginning: str) -> List[str]:
         """The lines up to one that begins so."""
-        assert self.process.stdout
         lines: List[str] = []
-        for line in self.process.stdout:
-            lines.append(line.split(" ", 1)[1].rstrip("\n"))
-            self.lines.append(lines[-1])
-            if lines[-1].startswith(beginning):
-                return lines
+        with self.watched() as said:
+            for line in said:
+                lines.append(line.split(" ", 1)[1].rstrip("\n"))
+                self.lines.append(lines[-1])
+                if lines[-1].startswith(beginning):
+                    return lines
         check(f"a line {beginning!r}", lines, "one of them")
         return lines
 
     def end(self, number: int = signal.SIGTERM) -> Tuple[int, List[str]]:
-        assert self.process.stdout
         self.process.send_signal(number)
-        rest = untimed(self.process.stdout.read())
-        self.watch.cancel()
+        with self.watched() as said:
+            rest = untimed(said.read())
         return self.process.wait(), rest
 
 
