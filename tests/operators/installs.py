@@ -52,11 +52,12 @@ check("installed", (status, out.startswith("numarun and its scripts are in "), e
 first = standing()
 check("the commands", sorted(name for name in os.listdir(os.path.join(PREFIX, "bin"))), ["numarun"] + [f"numarun-{name}" for name in NAMES] + ["other"])
 pages = [name for name in first if name.startswith("share/") and not name.endswith("/")]
-kept = [os.path.relpath(os.path.join(folder, name), TOP) for of in ("bundles", "machines", "scripts") for folder, _, names in os.walk(os.path.join(TOP, "examples", of)) for name in names]
+kept = [os.path.relpath(os.path.join(folder, name), TOP) for of in ("bundles", "dashboards", "machines", "scripts") for folder, _, names in os.walk(os.path.join(TOP, "examples", of)) for name in names]
 kept += ["operators/" + name for name in os.listdir(OPERATORS) if name.endswith(".md")]
 kept += ["docs/formats.md", "docs/two-socket.svg", "examples/caches.certificate", "examples/caches.problem", "examples/two-containers.certificate"]
 check("the pages", sorted(pages), sorted([f"share/doc/numarun/{name}" for name in kept] +
-      ["share/man/man1/numarun.1", "share/man/man8/numarun-agent.8", "share/man/man8/numarun-hook.8"]))
+      ["share/man/man1/numarun.1"] + [f"share/man/man1/numarun-{name}.1" for name in ("describe", "draw-plan", "dry-run", "explain")] +
+      [f"share/man/man8/numarun-{name}.8" for name in ("agent", "hook")]))
 listed = open(os.path.join(PREFIX, "lib", "numarun", "installed")).read().splitlines()
 check("the list is what is new", sorted(listed), sorted(set(first) - set(BEFORE)))
 check("the unit alone names the prefix", [name for name, told in first.items() if told and PREFIX in str(told[0])],

@@ -1,5 +1,5 @@
-"""Compares the man page with the help that the program prints: its words are the help's. The pages of the agent and of the hook name options
-that there are. mandoc looks at them, where it is."""
+"""Compares the man page with the help that the program prints: its words are the help's. Those of the scripts name the options that there are, and
+all of them, but for the agent's, which names those that one sets most. mandoc looks at them, where it is."""
 
 import os
 import re
@@ -10,7 +10,8 @@ from trial import OPERATORS, TOP, check, end
 from trial import told as said
 
 PAGE = os.path.join(TOP, "docs", "numarun.1")
-PAGES = [os.path.join(OPERATORS, name) for name in ("numarun-agent.8", "numarun-hook.8")]
+PAGES = [os.path.join(OPERATORS, name) for name in sorted(os.listdir(OPERATORS)) if name.endswith((".1", ".8"))]
+HELPS = {"numarun-describe": ("numarun-describe host", "numarun-describe hwloc")}  # those that are asked for each of their subcommands
 PROGRAM = os.environ["PROGRAM"]
 
 
@@ -47,10 +48,13 @@ for command in ("check", "list", "slit", "run", "solve"):
 for command in re.findall(r"^\| `([a-z]+)[^|]*\| (?:to|for|whether|that) ", open(os.path.join(TOP, "docs", "formats.md")).read(), re.M):
     check(f"the page has the line {command}", f".It Cm {command}" in open(PAGE).read(), True)
 for path in PAGES:
-    helps = said(os.path.basename(path)[:-2], "--help")[1]
-    options = re.findall(r"^\.It Fl (-[a-z-]+)", open(path).read(), re.M)
-    check(f"options of {os.path.basename(path)}", [option for option in options if f"-{option} " not in helps], [])
-    check("and there are some", len(options) > 2, True)
+    name = os.path.basename(path)[:-2]
+    helps = "\n".join(said(script, "--help")[1] for script in HELPS.get(name, (name,)))
+    options = re.findall(r"Fl (-[a-z-]+)", "\n".join(line for line in open(path).read().split("\n") if line.startswith(".It Fl")))
+    check(f"options of {name}", [option for option in options if f"-{option} " not in f"{helps} "], [])
+    check("and there are some", len(options) > 0, True)
+    told_all = set(re.findall(r"^  (--[a-z-]+)", helps, re.M)) - {"--help"}
+    check(f"options that {name} lacks", sorted(told_all - {f"-{option}" for option in options}) if name != "numarun-agent" else [], [])
 if shutil.which("mandoc"):
     found = subprocess.run(["mandoc", "-T", "lint", PAGE], capture_output=True)
     check("mandoc -T lint", (found.returncode, found.stdout.decode()), (0, ""))
