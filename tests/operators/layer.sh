@@ -1,7 +1,8 @@
 #!/bin/sh
 # Installs, upgrades, removes and purges the package in a layer over this machine, which is thrown away: layer.sh FOLDER FIRST.deb SECOND.deb.
 # FOLDER has `words`, the words of the agent that is started there, `tree`, which stands for the cgroup tree, and `etc`. No service manager
-# is started: in its place a script notes what it is told, and does that with the agent. It is to be run in a mount namespace of its own.
+# is started: in its place a script notes what it is told, and does that with the agent. It is to be run in namespaces of its own, of mounts
+# and of processes.
 set -eu
 folder=$1 first=$2 second=$3
 mount -t tmpfs layer "$folder/layer"
@@ -9,7 +10,7 @@ mkdir "$folder/layer/upper" "$folder/layer/work" "$folder/layer/root"
 mount -t overlay -o "lowerdir=/,upperdir=$folder/layer/upper,workdir=$folder/layer/work" overlay "$folder/layer/root"
 root=$folder/layer/root
 mkdir -p "$root/run/systemd/system" "$root/sys/fs/cgroup" "$root/etc/numarun"
-mount --bind /proc "$root/proc"
+mount -t proc proc "$root/proc"
 mount --bind /dev "$root/dev"
 cp -r "$folder/etc/." "$root/etc/numarun"
 cp -r "$folder/tree/." "$root/sys/fs/cgroup"

@@ -19,6 +19,7 @@ from trial import PROGRAM, TOP, case, check, long_case, scratch, told
 
 HERE = {**os.environ, "PROGRAM": PROGRAM}
 TOOLS = ("dpkg-buildpackage", "dh", "dh_python3", "unshare", "chroot")
+APART = ["unshare", "-m", "-p", "-f", "--kill-child"]  # whatever is started in the layer ends with it
 EXPECTED = [
     "installed: start numarun-agent.service,",
     "0",
@@ -34,7 +35,7 @@ EXPECTED = [
 
 def lacking() -> List[str]:
     lacks = [tool for tool in TOOLS if not shutil.which(tool)]
-    return lacks or ([] if subprocess.run(["unshare", "-m", "true"], capture_output=True).returncode == 0 else ["a mount namespace"])
+    return lacks or ([] if subprocess.run([*APART, "true"], capture_output=True).returncode == 0 else ["namespaces of mounts and processes"])
 
 
 @functools.lru_cache(None)
@@ -77,7 +78,7 @@ def in_a_layer() -> None:
     with open(site.at("words"), "w") as file:
         file.write(f"export GROUPS_LIBRARY={shlex.quote(os.environ['GROUPS_LIBRARY'])} PROGRAM={shlex.quote(PROGRAM)}\nexec {shlex.join(words)}\n")
     script = os.path.join(os.path.dirname(os.path.abspath(__file__)), "layer.sh")
-    ran = subprocess.run(["unshare", "-m", "sh", script, site.folder, first, later(first)], capture_output=True, text=True, timeout=300)
+    ran = subprocess.run([*APART, "sh", script, site.folder, first, later(first)], capture_output=True, text=True, timeout=1200)
     check("in a layer", ([line.rstrip() for line in ran.stdout.splitlines()], ran.stderr), (EXPECTED, ""))
 
 

@@ -1,5 +1,5 @@
-"""Compares the man page with the help that the program prints: its words are the help's. The pages of the scripts name options
-that there are. mandoc looks at them, where it is."""
+"""Compares the man page with the help that the program prints: its words are the help's. Those of the scripts name the options that there are, and
+all of them, but for the agent's, which names those that one sets most. mandoc looks at them, where it is."""
 
 import os
 import re
@@ -10,7 +10,8 @@ from trial import OPERATORS, PROGRAM, TOP, case, check
 from trial import told as said
 
 PAGE = os.path.join(TOP, "docs", "numarun.1")
-PAGES = sorted(os.path.join(OPERATORS, name) for name in os.listdir(OPERATORS) if name.endswith((".1", ".8")))
+PAGES = [os.path.join(OPERATORS, name) for name in sorted(os.listdir(OPERATORS)) if name.endswith((".1", ".8"))]
+HELPS = {"numarun-describe": ("numarun-describe host", "numarun-describe hwloc")}  # those that are asked for each of their subcommands
 
 
 def helped(*words):
@@ -52,12 +53,13 @@ def of_the_program():
 @case
 def of_the_scripts():
     for path in PAGES:
-        name = os.path.basename(path)
-        kinds = (("host",), ("hwloc",)) if name == "numarun-describe.1" else ((),)
-        helps = "".join(said(name[:-2], *kind, "--help")[1] for kind in kinds)
-        options = [option for line in open(path) if line.startswith(".It") for option in re.findall(r"Fl (-[a-z-]+)", line)]
-        check(f"options of {name}", [option for option in options if not re.search(f"-{option}[ =]", helps)], [])
-        check(f"{name} has some", bool(options), True)
+        name = os.path.basename(path)[:-2]
+        helps = "\n".join(said(script, "--help")[1] for script in HELPS.get(name, (name,)))
+        options = re.findall(r"Fl (-[a-z-]+)", "\n".join(line for line in open(path) if line.startswith(".It Fl")))
+        check(f"options of {name}", [option for option in options if not re.search(rf"-{option}[\s=]", helps)], [])
+        check("and there are some", len(options) > 0, True)
+        told_all = set(re.findall(r"^  (--[a-z-]+)", helps, re.M)) - {"--help"}
+        check(f"options that {name} lacks", sorted(told_all - {f"-{option}" for option in options}) if name != "numarun-agent" else [], [])
 
 
 @case
