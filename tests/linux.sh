@@ -36,7 +36,7 @@ fi
 if has docker; then
     packages+=" docker.io" daemons+=" usr/sbin/dockerd usr/bin/docker" libraries=libdevmapper1.02.1
 fi
-needed="qemu-system-x86 cpio gcc libc6-dev $inside $libraries"
+needed="qemu-system-x86 cpio gcc libc6-dev $inside${libraries:+ $libraries}"
 has_all() {
     local one
     for one in qemu-system-x86_64 cpio gcc $inside; do

@@ -70,8 +70,9 @@ class Input:
 
 @dataclass(frozen=True)
 class Entry:
-    """A container in a watched folder, and what is kept of it there."""
+    """A container in a watched folder, by its id, and what is kept of it there."""
 
+    name: str
     told: Told
     kept: Kept
 
@@ -104,7 +105,7 @@ class Folders:
             for name in sorted(names or []):
                 entry = self.entry(f"{path}/{name}")
                 if entry:
-                    found.setdefault(id_of(name), []).append(entry)
+                    found.setdefault(entry.name, []).append(entry)
                 containers, stranger = containers + bool(entry), stranger or ("" if entry else name)
             folders.append(Folder(path, names is not None, len(names or []), containers, stranger, by_runtime))
         self.folders = tuple(folders)
@@ -156,8 +157,9 @@ class Folders:
         kept = kept_in(folder, self.root)
         if kept is None:
             return None
-        fault = kept.fault if is_word(os.path.basename(folder)) else f"{ascii(folder)}: a name with blanks, or with signs that can't be printed, is no id"
-        entry = Entry(Told(kept.bundle, folder, listed=kept.listed, fault=fault), kept)
+        name = os.path.basename(folder)
+        fault = kept.fault if is_word(name) else f"{ascii(folder)}: a name with blanks, or with signs that can't be printed, is no id"
+        entry = Entry(id_of(name), Told(kept.bundle, folder, listed=kept.listed, fault=fault), kept)
         self.known[folder] = stamp, entry
         return entry
 
