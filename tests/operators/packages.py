@@ -104,7 +104,7 @@ def notified():
     path = site.at("notify")
     with socket.socket(socket.AF_UNIX, socket.SOCK_DGRAM) as door:
         door.bind(path)
-        door.settimeout(30)
+        door.settimeout(300)
         os.environ.update(NOTIFY_SOCKET=path, WATCHDOG_USEC="1000000")
         agent = Open(site, "--pause", "3600")
         heard = [door.recv(100), door.recv(100)]

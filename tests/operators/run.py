@@ -33,7 +33,7 @@ from numarun_host import agent, explain
 HERE = pathlib.Path(__file__).resolve().parent
 SHARED = (agent, explain, sites, trial)  # what most cases import is read once, before they are begun
 LONG = 10.0  # seconds from which on a line says how long a case took
-MOST = 1800  # seconds in which a case has to end
+MOST = 3600  # seconds in which a case has to end
 
 
 class Unknown(Exception):

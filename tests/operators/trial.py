@@ -12,7 +12,7 @@ TOP = os.path.dirname(os.path.dirname(os.path.dirname(os.path.abspath(__file__))
 EXAMPLES, OPERATORS = os.path.join(TOP, "examples"), os.path.join(TOP, "operators")
 sys.path.insert(0, OPERATORS)
 PROGRAM = os.path.abspath(os.environ.get("PROGRAM", "no-program"))
-SECONDS = 300  # that a script has
+SECONDS = 900  # that a script has, on the slowest machine
 CASES: Dict[str, Callable[[], None]] = {}
 failed: List[str] = []
 

@@ -1,6 +1,6 @@
 """Plays a week of containers in folders, 5,000 a day, at full speed: the clock is handed to the agent. Behind each hour it says what the agent and its
 program have: memory, files in the agent's folder, open files, what is known of containers, and lines of the log in that hour. All of it is at the end
-as it was after the first hours. `weeks.py [HOURS [SEED]]` plays so many hours, or the week of 168."""
+as it was after the first hour. `weeks.py [HOURS [SEED]]` plays so many hours, or the week of 168."""
 
 from __future__ import annotations
 
@@ -24,7 +24,7 @@ from numarun_host.machine import Machine
 A_DAY = 5000          # containers that come
 HOUR = 3600.0
 ALIVE = 40            # of them at once, by and large
-WARM = 2              # hours after which nothing grows any more
+WARM = 1              # hours after which nothing grows any more
 MACHINE = {"nodes": ["0-15", "16-31"], "distances": [[10, 21], [21, 10]], "reserved": "0"}
 PAGES = os.sysconf("SC_PAGE_SIZE")
 
@@ -153,8 +153,8 @@ def played(folder: str, hours: int, seed: int) -> List[Sample]:
 
 @case
 def some_hours() -> None:
-    """Three hours, in which some 600 containers come."""
-    check("what has grown", grown(played(scratch("week"), 3, 1)), [])
+    """Two hours, in which some 430 containers come."""
+    check("what has grown", grown(played(scratch("week"), 2, 1)), [])
 
 
 if __name__ == "__main__":
