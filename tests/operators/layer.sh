@@ -12,6 +12,7 @@ root=$folder/layer/root
 mkdir -p "$root/run/systemd/system" "$root/sys/fs/cgroup" "$root/etc/numarun"
 mount -t proc proc "$root/proc"
 mount --bind /dev "$root/dev"
+rm -f "$root/var/lib/man-db/auto-update"  # else the index of all man pages is made anew at each step
 cp -r "$folder/etc/." "$root/etc/numarun"
 cp -r "$folder/tree/." "$root/sys/fs/cgroup"
 cat > "$root/usr/bin/deb-systemd-invoke" <<'SCRIPT'
