@@ -8,6 +8,7 @@ from typing import Dict, List, Optional
 
 from sites import IN_FOLDERS, Site
 from numarun_host import agent, configuration
+from numarun_host.script import Refused
 from trial import case, check, refuses, told
 
 if configuration.library_of_toml() is None:
@@ -42,6 +43,8 @@ REFUSED: Dict[str, str] = {
     "lift = 1": "lift: neither true nor false",
     "watch = [1]": "watch: no text",
     'watch = [["x"]]': "watch: no text",
+    'runtime = "docker,dokcer"': "runtime: 'dokcer' is no runtime: docker, ",
+    "runtime = [5]": "runtime: '5' is no runtime: docker, ",
     "watcch = 1": "watcch: no option of a file (see --help)",
     "pool_least = 1": "pool_least: no option of a file (see --help)",
     "pool = 2020-01-01": "pool: no text",
@@ -126,7 +129,7 @@ def by_which_library() -> None:
         sys.modules.update(modules)  # type: ignore[arg-type] # nothing in its place is a module that is not there
         try:
             found: object = configuration.read_toml(path)
-        except configuration.Refused as why:
+        except Refused as why:
             found = str(why)
         right = found == expected if isinstance(expected, dict) else f"{path}: {expected}" in str(found)
         check(f"by {[name for name, module in modules.items() if module]}", right, True)

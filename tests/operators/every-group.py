@@ -5,7 +5,7 @@ from __future__ import annotations
 
 import os
 import shutil
-from typing import List
+from typing import Any, Dict, List
 
 from sites import Open, Site
 from numarun_host.cgroups import is_partition
@@ -13,7 +13,7 @@ from numarun_host.taken import read_record
 from trial import case, check, told
 
 
-def place(group: str) -> "dict[str, object]":
+def place(group: str) -> Dict[str, Any]:
     return {"linux": {"cgroupsPath": f"/{group}"}}
 
 

@@ -8,7 +8,7 @@ import json
 import os
 import random
 import time
-from typing import Dict, Optional, Set, Tuple
+from typing import Dict, Optional, Sequence, Set, Tuple
 
 from decisions import MACHINE
 from sites import Open, Site
@@ -32,7 +32,7 @@ def limit(site: Site, name: str) -> str:
     return site.file(f"numarun/{name}", "cpu.max")
 
 
-def limited(site: Site, name: str, cpus: int, quota: str) -> None:
+def limited(site: Site, name: str, cpus: float, quota: str) -> None:
     site.come(name, cpus)
     site.put(f"numarun/{name}", "cpu.max", quota)
 
@@ -172,7 +172,9 @@ def records() -> None:
     site = Site()
     os.makedirs(site.at("work"))
     inode = os.stat(site.folder).st_ino
-    for members, expected in [([], None), ([[5, 10]], (5, 10)), ([None], None), ([[5]], None), ([[0, 10]], None), ([["5", 10]], None), ([True], None)]:
+    table: Sequence[Tuple[Sequence[object], Optional[Limit]]] = (
+        ([], None), ([[5, 10]], (5, 10)), ([None], None), ([[5]], None), ([[0, 10]], None), ([["5", 10]], None), ([True], None))
+    for members, expected in table:
         with open(site.at("work/taken.json"), "w") as file:
             json.dump({"all": ["0-7", "0"], "groups": {site.folder: [inode, "", "", False, *members]}}, file)
         taken = read_record(site.at("work")).groups[site.folder]
