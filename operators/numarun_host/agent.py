@@ -131,8 +131,8 @@ def parser_of_words() -> Parser:
     parser = Parser(description=__doc__, epilog=EXAMPLE, formatter_class=argparse.RawDescriptionHelpFormatter, fromfile_prefix_chars="@")
     parser.add_argument("machine", metavar="MACHINE", nargs="?", help="the machine file")
     parser.add_argument("--version", action="store_true", help="say which numarun it works with, and end")
-    parser.add_argument("--config", metavar="FILE", help="a file of options in TOML, as pool-least = \"10%%\" and watch = [\"/run/crun\"], of which machine "
-                        "is the machine file; what is said beside it counts more, and of what may be said several times all counts")
+    parser.add_argument("--config", metavar="FILE", help="a file of options in TOML, as pool-least = \"10%%\" and watch = [\"/run/crun\"], of which "
+                        "machine is the machine file; what is said beside it counts more, and of what may be said several times all counts")
     add_program(parser)
     add_containers(parser)
     add_rest(parser)
@@ -204,8 +204,9 @@ def add_program(parser: argparse.ArgumentParser) -> None:
 
 def add_containers(parser: argparse.ArgumentParser) -> None:
     group = parser.add_argument_group("containers")
-    group.add_argument("--runtime", type=runtimes_text, metavar="NAMES", action="append", default=[], help="the containers are those of these runtimes, "
-                       f"with commas between them: {', '.join(NAMES)}, or {ALL}. The folders in which they keep their state are watched, those that are there")
+    group.add_argument("--runtime", type=runtimes_text, metavar="NAMES", action="append", default=[], help="the containers are those of these "
+                       f"runtimes, with commas between them: {', '.join(NAMES)}, or {ALL}. The folders in which they keep their state are watched, "
+                       "those that are there")
     group.add_argument("--watch", metavar="FOLDER", action="append", default=[], help="the containers are those of this folder, and of others that "
                        "are named so")
     group.add_argument("--group", default="numarun", metavar="NAME", help="the group that has the groups of which nothing else is said (%(default)s)")
@@ -224,8 +225,8 @@ def add_rest(parser: argparse.ArgumentParser) -> None:
     group = parser.add_argument_group("the rest of the machine")
     group.add_argument("--rest", action="append", default=[], metavar="GROUPS", help="groups of the system itself, with commas between them, as "
                        "system.slice,user.slice,init.scope: they are held on the pool, those that are there; / is each group of the root")
-    group.add_argument("--pool-least", type=pool_least_text, default=POOL_LEAST, metavar="N", help="newcomers wait rather than bring the pool below so many CPUs, or "
-                       "this part of them; of a part two cores are kept at least (%(default)s)")
+    group.add_argument("--pool-least", type=pool_least_text, default=POOL_LEAST, metavar="N", help="newcomers wait rather than bring the pool below "
+                       "so many CPUs, or this part of them; of a part two cores are kept at least (%(default)s)")
     group.add_argument("--pool", metavar="COMMAND", help="run this with the pool's list behind it whenever that has changed")
 
 
@@ -238,7 +239,8 @@ def add_records(parser: argparse.ArgumentParser) -> None:
 
 def settings_of(words: argparse.Namespace, machine: Machine, root: Optional[str]) -> Settings:
     return Settings(machine, words.machine, root, Pin(words.pin), words.home == "free", tuple(words.groups),
-                    pool_least_of(words.pool_least, machine), words.pause, words.certificates or "", words.textfile or "", bool(words.pool), words.lift)
+                    pool_least_of(words.pool_least, machine), words.pause, words.certificates or "", words.textfile or "", bool(words.pool),
+                    words.lift)
 
 
 def memory_of(machine: Machine, groups: Optional[Groups]) -> Cpus:

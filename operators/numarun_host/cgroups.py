@@ -173,7 +173,8 @@ def group_path(root: str, parent: str, name: str, config: Config, folder: Option
     found: object = told
     if found is None:
         path = at(config, "linux", "cgroupsPath")
-        found = (group_in(state_of_runtime(folder)) if folder is not None else None) or (scope_of(path) if isinstance(path, str) and path.count(":") == 2 else path)
+        stated = group_in(state_of_runtime(folder)) if folder is not None else None
+        found = stated or (scope_of(path) if isinstance(path, str) and path.count(":") == 2 else path)
     return root + below_root(root, found if isinstance(found, str) and found else f"{parent}/{name}").rstrip("/")
 
 

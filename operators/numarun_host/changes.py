@@ -220,10 +220,13 @@ def keep_lists(turn: Turn) -> None:
     """Of whom its runtime gave another list, that is what its group requested, for --release and the next agent."""
     ledger = turn.ledger
     for container in ledger.containers.values():
-        seen, taken = container.seen, ledger.taken.get(container.seen.group.path)
+        seen, before = container.seen, ledger.taken.get(container.seen.group.path)
         text = seen.listed or seen.told.listed
-        if taken and text and taken.inode == seen.group.inode and (taken.listed or seen.listed) and (taken.cpus, taken.listed) != (text, bool(seen.listed)):
-            ledger.taken[seen.group.path] = dataclasses.replace(taken, cpus=text, listed=bool(seen.listed))
+        if not before or not text or before.inode != seen.group.inode or not (before.listed or seen.listed):
+            continue
+        taken = dataclasses.replace(before, cpus=text, listed=bool(seen.listed))
+        if taken != before:
+            ledger.taken[seen.group.path] = taken
             turn.unsaved = True
 
 
