@@ -6,11 +6,11 @@ import json
 import os
 import re
 import time
-from typing import Dict, Tuple
+from typing import Callable, Dict, Tuple
 
-from sites import Open, Site
-from numarun_host.status import text_of
-from trial import case, check, refuses, told
+from sites import PATIENCE, Open, Site
+from numarun_host.status import text_of as table_of
+from trial import case, check, refuses, text_of, told
 
 
 def asked(site: Site, *words: str) -> Tuple[int, str, str]:
@@ -28,6 +28,13 @@ def full(site: Site, *words: str) -> Open:
     agent = Open(site, *words)
     agent.until("done")
     return agent
+
+
+def wait_for(site: Site, holds: Callable[[str], bool]) -> None:
+    """Waits until the last state that is kept is so: it is written behind the last line of a look."""
+    until = time.monotonic() + PATIENCE
+    while not holds(text_of(site.at("work/status.json"))) and time.monotonic() < until:
+        time.sleep(0.05)
 
 
 @case
@@ -56,6 +63,7 @@ def killed() -> None:
     agent.until("absent ghost")
     site.go("a")
     agent.until("done")
+    wait_for(site, lambda text: '"1-7"' in text)
     agent.process.kill()
     agent.process.wait()
     status, out, err = asked(site)
@@ -64,9 +72,7 @@ def killed() -> None:
     check("who has what", (rows.get("a"), rows.get("big"), "absent ghost" in out), (None, ["pinned", "1-7"], True))
     agent = Open(site)
     os.rename(site.at("g/ghost"), site.at("away"))
-    until = time.monotonic() + 20
-    while "absent" in asked(site, "--json")[1] and time.monotonic() < until:
-        time.sleep(0.1)
+    wait_for(site, lambda text: "absent" not in text)
     agent.process.kill()
     agent.process.wait()
     check("nothing that is settled", known(site)["undone"], [])
@@ -100,7 +106,7 @@ def certified() -> None:
     check("and in the last state", found and found[1] in asked(site)[1], True)
     plan = known(site)["plan"]
     check("as JSON", isinstance(plan, dict) and (plan["total"], plan["beyond_local"]), (20, 0))
-    check("before there is one", text_of({"pool": "-", "reserved": "0", "offline": "-", "plan": None}), "pool -, reserved 0, offline -\nno plan yet")
+    check("before there is one", table_of({"pool": "-", "reserved": "0", "offline": "-", "plan": None}), "pool -, reserved 0, offline -\nno plan yet")
 
 
 @case
