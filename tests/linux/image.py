@@ -72,6 +72,9 @@ def main(root, *files):
     python, *modules = files_of_python(AT_A_DESK if desk else [])
     put_linked(root, python)
     os.symlink(python, f"{root}/bin/python3")
+    os.makedirs(f"{root}/usr/bin", exist_ok=True)
+    if not os.path.lexists(f"{root}/usr/bin/python3"):
+        os.symlink(python, f"{root}/usr/bin/python3")  # by which the programs of Debian's packages name it
     put_linked(root, "/usr/bin/env")
     for path in modules:
         put_linked(root, path) if path.endswith(".so") else put(root, path)
