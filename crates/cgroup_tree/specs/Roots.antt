@@ -1,6 +1,6 @@
 -- What the root of a cgroup tree has to be before a run begins, and why it is refused.
--- From: cgroup v2, "Core Interface Files", `cgroup.controllers`, `cpuset.cpus.effective`, `cpuset.mems.effective`; cpuset(7),
--- List Format.
+-- From: cgroup v2, "Core Interface Files", `cgroup.controllers`, `cpuset.cpus.effective`, `cpuset.mems.effective`,
+-- `cpuset.cpus.partition`; cpuset(7), List Format.
 use Rattle.std.specs.Prelude.{◌≡◌, ◌≢◌, ◌⊎◌, ◌==◌, ◌||◌, ⊤, ℕ, Bool, true, false, if◌then◌else◌, List, [], ◌∷◌, ◌++◌, codes, bytes_eq, Option, Some, None, Result, Ok, Err}
 use Rattle.std.specs.FinSet as set
 use Rattle.std.specs.List.{list_any, slice_split}
@@ -10,8 +10,8 @@ use Rattle.cpu_set.specs.Ids.{Ids}
 use Rattle.cpu_set.specs.declared.TheConstants.{CPU_LIMIT}
 use Rattle.cpu_list.specs.FirstFault.{first_fault}
 use Rattle.cpu_list.specs.ListText.{IsSetOf}
-use Rattle.cgroup_tree.specs.Asked.{Asked, Remark, Lacks, HasBesides, NoList, Locked, Named, Told, done, refused}
-use Rattle.cgroup_tree.specs.Paths.{cpus_in_effect}
+use Rattle.cgroup_tree.specs.Asked.{Asked, Remark, Lacks, HasBesides, NoList, Holds, IsAbsent, Locked, Named, Told, done, refused}
+use Rattle.cgroup_tree.specs.Paths.{cpus_in_effect, partition_file, root_line}
 use Rattle.cgroup_tree.specs.declared.difference.Difference.{Difference}
 use Rattle.cgroup_tree.specs.declared.difference.Difference.TheVariants as difference
 use Rattle.cgroup_tree.specs.declared.fault.RootFault.{RootFault}
@@ -96,6 +96,11 @@ module _ (finds : List ℕ → Finding → Type 0) (root : List ℕ) where
   HaveMemory nodes memory None = memory ≡ nodes
   HaveMemory nodes memory (Some text) = IsListOf text memory × (set.is_subset memory nodes ≡ true)
 
+  -- the root is a valid partition root, whose load the scheduler balances
+  abbrev pub IsPartition : Option (List ℕ) → Type 0
+  IsPartition None = ⊥
+  IsPartition (Some text) = text ≡ root_line
+
   -- the first look at the root: whether it is a folder
   abbrev pub LooksAtFolder : Result (Unit {0}) RootFault → Type 0
   LooksAtFolder (Ok done) = finds root (IsFolder true)
@@ -129,31 +134,49 @@ module _ (finds : List ℕ → Finding → Type 0) (root : List ℕ) where
   LooksAtMems nodes (Err root_fault.OtherMachine) = IsFound mems_in_effect (λ text. (memory : Ids) → HaveMemory nodes memory text → ⊥)
   LooksAtMems nodes (Err why) = CantRead mems_in_effect why
 
-  -- the looks behind the lock, in their order: what a root tells of the machine
-  abbrev pub LooksAtMachine : (online nodes : Ids) → Result Ids RootFault → Type 0
-  LooksAtMachine online nodes (Ok memory) =
+  -- the look at its partition file, if it has to be a partition root; else nothing is looked at
+  abbrev pub LooksAtPartition : Bool → Result (Unit {0}) RootFault → Type 0
+  LooksAtPartition false (Ok done) = ⊤
+  LooksAtPartition false (Err why) = ⊥
+  LooksAtPartition true (Ok done) = IsFound partition_file IsPartition
+  LooksAtPartition true (Err root_fault.NoPartition) = IsFound partition_file (λ text. IsPartition text → ⊥)
+  LooksAtPartition true (Err why) = CantRead partition_file why
+
+  -- the looks behind the lock, in their order: what a root tells of the machine, and whether it is a partition root if it has to
+  -- be one
+  abbrev pub LooksAtMachine : (online nodes : Ids) → (partition : Bool) → Result Ids RootFault → Type 0
+  LooksAtMachine online nodes partition (Ok memory) =
       IsFound controllers_file HasCpusets × IsFound cpus_in_effect (AreOnline online) × LooksAtMems nodes (Ok memory)
-  LooksAtMachine online nodes (Err root_fault.Memory) = ⊤
-  LooksAtMachine online nodes (Err why) =
+      × LooksAtPartition partition (Ok tt)
+  LooksAtMachine online nodes partition (Err root_fault.Memory) = ⊤
+  LooksAtMachine online nodes partition (Err why) =
       LooksAtControllers (Err why)
       ⊎ (IsFound controllers_file HasCpusets × (LooksAtCpus online (Err why)
-      ⊎ (IsFound cpus_in_effect (AreOnline online) × LooksAtMems nodes (Err why))))
+      ⊎ (IsFound cpus_in_effect (AreOnline online) × (LooksAtMems nodes (Err why)
+      ⊎ (((memory : Ids) × LooksAtMems nodes (Ok memory)) × LooksAtPartition partition (Err why))))))
 
   -- the nodes of a root that have memory, or why it is refused: the first of the looks that is against it; an allocation may
   -- fail anywhere
-  abbrev pub AnswersRoot : (online nodes : Ids) → Result Ids RootFault → Type 0
-  AnswersRoot online nodes (Ok memory) = finds root (IsFolder true) × finds root (IsTaken false) × LooksAtMachine online nodes (Ok memory)
-  AnswersRoot online nodes (Err root_fault.Memory) = ⊤
-  AnswersRoot online nodes (Err why) =
+  abbrev pub AnswersRoot : (online nodes : Ids) → (partition : Bool) → Result Ids RootFault → Type 0
+  AnswersRoot online nodes partition (Ok memory) = finds root (IsFolder true) × finds root (IsTaken false) × LooksAtMachine online nodes partition (Ok memory)
+  AnswersRoot online nodes partition (Err root_fault.Memory) = ⊤
+  AnswersRoot online nodes partition (Err why) =
       LooksAtFolder (Err why)
       ⊎ (finds root (IsFolder true) × (LooksAtLock {A = Unit {0}} (Err why)
-      ⊎ (finds root (IsTaken false) × LooksAtMachine online nodes (Err why))))
+      ⊎ (finds root (IsTaken false) × LooksAtMachine online nodes partition (Err why))))
 
 -- what is told of a difference
 abbrev pub remark_of : Difference → Remark
 remark_of (difference.Lacks numbers) = Lacks numbers.now
 remark_of (difference.HasBesides numbers) = HasBesides numbers.now
 remark_of difference.NoList = NoList
+remark_of (difference.Holds text) = Holds text.now
+remark_of difference.Absent = IsAbsent
+
+-- what is told of the file of a root that is no partition root: the text that it has, or that there is none
+abbrev pub partition_remark : Option (List ℕ) → Remark
+partition_remark None = IsAbsent
+partition_remark (Some text) = Holds text
 
 -- a remark on a file, unless there are no such numbers
 abbrev pub TellsUnlessNone : List ℕ → Ids → Remark → List Asked → Type 0
@@ -189,6 +212,14 @@ module _ (finds : List ℕ → Finding → Type 0) (root : List ℕ) where
   MemsTell nodes (Err root_fault.OtherMachine) told = Tells mems_in_effect set.empty nodes told
   MemsTell nodes answer told = told ≡ []
 
+  -- by the look at its partition file
+  abbrev pub TellsPartition : List Asked → Type 0
+  TellsPartition told = (text : Option (List ℕ)) × finds (root ++ partition_file) (Has text) × (told ≡ done (Told (root ++ partition_file) (partition_remark text)) ∷ [])
+
+  abbrev pub PartitionTells : Result (Unit {0}) RootFault → List Asked → Type 0
+  PartitionTells (Err root_fault.NoPartition) told = TellsPartition told
+  PartitionTells answer told = told ≡ []
+
   -- the folders of a run before are named, where they may be there
   abbrev pub names_strangers : Bool → List Asked
   names_strangers adopt = if adopt then done (Named (root ++ group_folder)) ∷ [] else []
@@ -197,14 +228,15 @@ module _ (finds : List ℕ → Finding → Type 0) (root : List ℕ) where
   abbrev pub MachineTells : (online nodes : Ids) → (adopt : Bool) → Result Ids RootFault → List Asked → Type 0
   MachineTells online nodes adopt (Ok memory) told = told ≡ names_strangers adopt
   MachineTells online nodes adopt (Err root_fault.OtherMachine) told = Tells cpus_in_effect online online told ⊎ Tells mems_in_effect set.empty nodes told
+  MachineTells online nodes adopt (Err root_fault.NoPartition) told = TellsPartition told
   MachineTells online nodes adopt (Err why) told = told ≡ []
 
   -- it was kept from other programs, and then this was asked
   abbrev pub behind_lock : List Asked → List Asked
   behind_lock told = told ++ done (Locked root) ∷ []
 
-  -- while a root was opened: it was kept from other programs, and what it has was told where it is another machine's. The
-  -- folders of a run before were named where it was taken. Nothing that changes a file was asked.
+  -- while a root was opened: it was kept from other programs, and what it has was told where it is another machine's or no
+  -- partition root. The folders of a run before were named where it was taken. Nothing that changes a file was asked.
   abbrev pub RootTells : (online nodes : Ids) → (adopt : Bool) → Result Ids RootFault → List Asked → Type 0
   RootTells online nodes adopt (Err root_fault.Taken) asked = asked ≡ refused (Locked root) ∷ []
   RootTells online nodes adopt (Err (root_fault.Unlocked kind)) asked = asked ≡ refused (Locked root) ∷ []

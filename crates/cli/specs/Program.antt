@@ -4,6 +4,7 @@ use Rattle.std.specs.declared.io.ErrorKind.{ErrorKind as SystemKind}
 use Rattle.cgroup_tree.specs.Asked.{Asked as FileCall, Asks, HandsBack, Opening}
 use Rattle.cgroup_tree.specs.Roots.{AnswersRoot, Finding, RootTells}
 use Rattle.cgroup_tree.specs.Site.{Site}
+use Rattle.cgroup_tree.specs.declared.RootOptions.{RootOptions}
 use Rattle.clap.specs.Words.{IsAmong, Text}
 use Rattle.clap.specs.declared.error.kind.ErrorKind.{ErrorKind}
 use Rattle.clap.specs.declared.error.kind.ErrorKind.TheVariants.{DisplayHelp, DisplayVersion, OutOfMemory}
@@ -105,16 +106,15 @@ module _ {W E : Type 0} (out : W → Option (List ℕ)) (err : E → Option (Lis
       abbrev pub Unasked : Type 0
       Unasked = Asks asked_of trees [] trees'
 
-      -- the same as `Scripts` in a cgroup tree, below the root that is named, opened with folders of a run before or without;
-      -- or the root is refused. What was asked of trees is what the root was opened by, and then what the node's kernel asked
+      -- the same as `Scripts` in a cgroup tree, below the root that is named, opened by these options; or the root is refused. What was asked of trees is what the root was opened by, and then what the node's kernel asked
       -- for; and where a file is refused nothing was asked.
-      abbrev pub ScriptsMirrored : (Text → Option Text → Type 0) → Told → Option (List ℕ) → Option (List ℕ) → Text → Option Text → Text → Bool → Type 0
-      ScriptsMirrored sees told script script' machine table root adopt =
+      abbrev pub ScriptsMirrored : (Text → Option Text → Type 0) → Told → Option (List ℕ) → Option (List ℕ) → Text → Option Text → Text → RootOptions → Type 0
+      ScriptsMirrored sees told script script' machine table root options =
           ((m : Layout) × SetsUp opens fails gives machine table (Ok m)
-          × (((memory : Ids) × AnswersRoot finds root m.online (nodes_of m) (Ok memory)
-          × ((opened : List FileCall) × RootTells finds root m.online (nodes_of m) adopt (Ok memory) opened
-          × ScriptsMirroredAt asked m (site_of m root memory adopt) (λ calls. HandsBack asked_of trees (calls ++ opened) trees') sees told script script'))
-          ⊎ ((why : Unrooted) × IsNotRooted finds root adopt m why (λ calls. Asks asked_of trees calls trees') × RefusesRoot root why)))
+          × (((memory : Ids) × AnswersRoot finds root m.online (nodes_of m) options.partition (Ok memory)
+          × ((opened : List FileCall) × RootTells finds root m.online (nodes_of m) options.adopt (Ok memory) opened
+          × ScriptsMirroredAt asked m (site_of m root memory options) (λ calls. HandsBack asked_of trees (calls ++ opened) trees') sees told script script'))
+          ⊎ ((why : Unrooted) × IsNotRooted finds root options m why (λ calls. Asks asked_of trees calls trees') × RefusesRoot root why)))
           ⊎ ((why : Unready) × SetsUp opens fails gives machine table (Err why) × Refuses machine table why × Unasked)
 
       -- what is asked for is done, over these files, these bundles, and what the reading of standard input may answer. Of trees
@@ -123,8 +123,8 @@ module _ {W E : Type 0} (out : W → Option (List ℕ)) (err : E → Option (Lis
       Does sees input script (check file) = Checks out err old new status (reads_named (Reads opens fails gives) input (name_of file)) (shown (name_of file)) × Unasked
       Does sees input script (list text) = Lists out err old new status text × Unasked
       Does sees input script (slit file) = Tabulates out err old new status (reads_named (Reads opens fails gives) input file) (shown file) × Unasked
-      Does sees input script (run machine table None adopt) = ((script' : Option (List ℕ)) × Scripts sees None script script' machine table) × Unasked
-      Does sees input script (run machine table (Some root) adopt) = (script' : Option (List ℕ)) × ScriptsMirrored sees None script script' machine table root adopt
+      Does sees input script (run machine table None options) = ((script' : Option (List ℕ)) × Scripts sees None script script' machine table) × Unasked
+      Does sees input script (run machine table (Some root) options) = (script' : Option (List ℕ)) × ScriptsMirrored sees None script script' machine table root options
       Does sees input script (solve file) = Solves out err old new status (reads_named (Reads opens fails gives) input (name_of file)) (shown (name_of file)) × Unasked
 
   -- the help or the version goes to standard output with status 0, and what a mistake is to standard error with

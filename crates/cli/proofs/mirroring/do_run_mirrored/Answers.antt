@@ -20,13 +20,13 @@ returns-in-Ok-open_below g c =
         (
           opened.0,
           opened.1,
-          leaves_more g.T.Files.GroupFiles.asked (site_of c.in-Ok.found c.args.root.path.now tree.tree.memory c.args.root.adopt)
+          leaves_more g.T.Files.GroupFiles.asked (site_of c.in-Ok.found c.args.root.path.now tree.tree.memory c.args.root.options)
               (λ calls. Closes g.T.GroupTrees.asked mid calls ran.new.trees)
               (λ calls. HandsBack g.T.GroupTrees.asked c.args.trees.now (calls ++ opened.0) ran.new.trees)
               (behind g.T.GroupTrees.asked c.args.trees.now mid ran.new.trees opened.0 opened.2)
               g.W.Write.contents g.E.Write.contents c.args.console.now ran.new.console ran.result c.in-Ok.found g.B.Bundles.finds (g.B.Bundles.told c.args.bundles)
               (g.R.Read.remaining c.args.script.now) (g.R.Read.remaining ran.new.script)
-              (rw (tree.ensures.root, tree.ensures.adopt) at ran.ensures),
+              (rw (tree.ensures.root, tree.ensures.options) at ran.ensures),
         ),
       ),
     )
