@@ -46,7 +46,9 @@ impl<R: Files + Eprint> HostTrees<'_, R> {
         let _ = eprintln!(self.rt; "error: {}: {error}", Shown(path));
         io::Error::from(ErrorKind::Other)
     }
+}
 
+impl<R: AllocGlobal + Eprint> HostTrees<'_, R> {
     /// Says on standard error which numbers a file has too few or too many.
     fn tell_numbers(&self, path: &str, what: &str, numbers: &IdSet) {
         if let Ok(list) = print(self.rt.alloc(), numbers) {
