@@ -25,6 +25,7 @@ EXAMPLE = """examples:
 def add_words(parser: argparse.ArgumentParser) -> None:
     parser.add_argument("--cores", action="store_true", help="tell the CPUs of each core, so that plans give whole cores")
     parser.add_argument("--reserved", metavar="LIST", help="the reserved CPUs")
+    parser.add_argument("--system", default="", metavar="LIST", help="leave these CPUs out, which are the system's own beside a cpuset partition")
     parser.add_argument("--renumber", action="store_true", help="number the nodes anew from 0")
 
 
@@ -39,10 +40,11 @@ def main() -> int:
         add_words(source)
     words = parser.parse_args()
     named: Optional[str] = words.reserved
+    system = read_list(words.system, "--system")
     if words.source == "host":
-        described = describe_host(words.sys, named, words.renumber, words.cores)
+        described = describe_host(words.sys, named, words.renumber, words.cores, system)
     else:
         reserved = None if named is None else read_list(named, "--reserved")
-        described = describe_hwloc(words.file, reserved, words.renumber, words.cores)
+        described = describe_hwloc(words.file, reserved, words.renumber, words.cores, system)
     print(described.text())
     return 0

@@ -39,7 +39,9 @@ def rooted(files: Dict[str, Optional[str]]) -> str:
     folder = tempfile.mkdtemp()
     root = pathlib.Path(folder, "root")
     root.mkdir()
-    for name, text in {"cgroup.subtree_control": "", **files}.items():
+    every: Dict[str, Optional[str]] = {"cgroup.subtree_control": ""}
+    every.update(files)
+    for name, text in every.items():
         if text is None:
             root.joinpath(name).mkdir()
         else:
