@@ -15,6 +15,8 @@ pub mod Events
 pub mod Stands
 pub mod PastLemmas
 pub mod MirroredLemmas
+pub mod Partitions
+pub mod PartitionLemmas
 pub mod Room
 pub mod RoomLemmas
 pub mod LineLemmas

@@ -2,6 +2,7 @@
 ghost use Rattle.std.specs.Prelude.{◌≡◌, true, false, [], ◌∷◌, codes};
 ghost use Rattle.kernel_model.specs.Worked.{root, small, web};
 ghost use Rattle.cgroup_tree.specs.Asked.{Made, Written, done, refused};
+ghost use Rattle.cgroup_tree.specs.Partitions.{PartitionIsOwn, StayBelowRoot};
 ghost use Rattle.cgroup_tree.specs.Paths.{folder};
 ghost use Rattle.cgroup_tree.specs.Roots.{names_cpuset};
 ghost use Rattle.cgroup_tree.specs.Standing.{FoldersStand, PlainNamesApart, WritesStand, text_in};
@@ -26,6 +27,14 @@ pub fn changes()
 /// Files stand for the tree after any list of calls of a mirrored kernel, whatever each of them returned.
 pub fn pasts()
     ensures { PastsStand }
+{}
+
+/// A partition root and the groups outside it are two trees: the root of the one has the partition's CPUs, and that of
+/// the other what was left. No group has in effect what its tree's root has not, so no group outside has in effect what
+/// a group of the partition has, whatever they request.
+pub fn partitions()
+    ensures below { StayBelowRoot }
+    ensures own { PartitionIsOwn }
 {}
 
 /// Worked rows of docs/formats.md, "In a cgroup tree": folders of groups, texts of files after calls, and controllers,

@@ -54,17 +54,6 @@ GrantsAll = (above : Ids) → granted set.empty above ≡ above
 abbrev pub GrantsWithin : Type 0
 GrantsWithin = (requested above : Ids) → requested ≢ set.empty → set.is_subset requested above ≡ true → granted requested above ≡ requested
 
--- no group has in effect what its tree's root has not
-abbrev pub StayBelowRoot : Type 0
-StayBelowRoot = (s : TreeState) (g : Group) (cpu : ℕ) → set.contains (effective_cpus s g) cpu ≡ true → set.contains s.online cpu ≡ true
-
--- a partition root and the groups outside it are two trees: the one's root has the partition's CPUs, and the other's has what was
--- left. Where these have no CPU in common, no group of one has in effect what a group of the other has, whatever they request.
-abbrev pub PartitionIsOwn : Type 0
-PartitionIsOwn =
-    (inside outside : TreeState) → ((cpu : ℕ) → set.contains inside.online cpu ≡ true → set.contains outside.online cpu ≡ false)
-    → (g h : Group) (cpu : ℕ) → set.contains (effective_cpus inside g) cpu ≡ true → set.contains (effective_cpus outside h) cpu ≡ false
-
 -- a group two below the root, with its entry and its parent's
 pub record IsTwoBelowRoot (s : TreeState) (g : Group) (e above : GroupEntry) : Type 0 where
   pub root : Group

@@ -3,19 +3,19 @@ use Rattle.std.proofs.Common.{◌≡◌, ℕ, ◌<◌, ◌≤◌, Bool, true, fa
 use Rattle.std.proofs.lemmas.Bool.{or_parts, and_parts, and_from, cond-true, cond-false, both_ways}
 use Rattle.std.proofs.lemmas.Option.{same_Some, none-some}
 use Rattle.std.proofs.lemmas.Slice.Eq.{bytes_eq-Decides}
-use Rattle.std.specs.Prelude.{Option, Some, None, cond, is_some, is_none, option_map, find, nat_eq}
+use Rattle.std.specs.Prelude.{Option, Some, None, is_some, is_none, option_map, find, nat_eq}
 use Rattle.std.specs.List.{list_any}
 use Rattle.std.specs.Cmp.Lexicographic.{pointwise}
 use Rattle.std.specs.FinSet as set
-use Rattle.cpu_set.specs.Ids.{Ids, is_empty}
+use Rattle.cpu_set.specs.Ids.{Ids}
 use Rattle.cpu_set.specs.PointwiseLaws.{same_members, contains-intersection, is_subset-contains}
 use Rattle.cpuset_tree.specs.declared.groups.Group.{Group}
 use Rattle.cpuset_tree.specs.TreeState.{GroupEntry, TreeState}
 use Rattle.cpuset_tree.specs.Groups.{cpus_in, mems_in, same_group, entry_among, entry_of, has_group, has_children, is_parent, is_root_entry, has_child_among, child_among, root_among}
-use Rattle.cpuset_tree.specs.Effective.{granted, standing, effective, effective_cpus}
+use Rattle.cpuset_tree.specs.Effective.{granted, standing, effective}
 use Rattle.cpuset_tree.specs.TreeChanges.{requesting_cpus, requesting_mems, with_group, without_group, with_cpus, with_mems, new_entry}
 use Rattle.cpuset_tree.specs.TreeWellFormed.{ParentIsAmong, IsFalling, IsWellFormed}
-use Rattle.cpuset_tree.specs.TreeLaws.{SameIsEqual, EntryIsOwn, IsRootEntry, RootIsThere, ParentIsThere, NoParentNoChildren, GrantsAll, GrantsWithin, StayBelowRoot, PartitionIsOwn, IsTwoBelowRoot, TwoBelowRoot, SamePlace, StandsAs, StandAlike, WritesLeavePlaces, SerialIsGiven, KeepsSerials, SerialsGivenOnce, WritesRequest, CpusWritten, MemsWritten, GroupAdded, AddedLeaves, RemovedLeaves, IsChild, FoundIsChild, ChangesStayWellFormed, FirstIsWellFormed, WellFormedRunsUp}
+use Rattle.cpuset_tree.specs.TreeLaws.{SameIsEqual, EntryIsOwn, IsRootEntry, RootIsThere, ParentIsThere, NoParentNoChildren, GrantsAll, GrantsWithin, IsTwoBelowRoot, TwoBelowRoot, SamePlace, StandsAs, StandAlike, WritesLeavePlaces, SerialIsGiven, KeepsSerials, SerialsGivenOnce, WritesRequest, CpusWritten, MemsWritten, GroupAdded, AddedLeaves, RemovedLeaves, IsChild, FoundIsChild, ChangesStayWellFormed, FirstIsWellFormed, WellFormedRunsUp}
 use Rattle.cpuset_tree.specs.GroupLemmas.{same_group-equal, same_group_itself, same_group_sym, same_group-serial, other_serial, entry_among-here, entry_among-there, entry_among-without, entry_among-removed}
 use Rattle.cpuset_tree.specs.GrantedLemmas.{granted_part, granted-empty}
 use Rattle.cpuset_tree.specs.WellFormedLemmas.{serial_below, effective-up, RunsUpThePath-well_formed}
@@ -484,39 +484,6 @@ grants_within requested above some within = granted_part requested above (λ e. 
 
     sub : (s t : Ids) → set.is_subset s t ≡ true → set.intersection s t ≡ s
     sub s t h = same_members (set.intersection s t) s (λ q. contains-intersection s t q ∙ both_where_one (set.contains s q) (set.contains t q) (is_subset-contains s t h q))
-
--- what is granted of a set is in it
-granted_below : (requested above : Ids) (cpu : ℕ) → set.contains (granted requested above) cpu ≡ true → set.contains above cpu ≡ true
-granted_below requested above cpu =
-    elim (is_empty (set.intersection requested above)) as (λ t. set.contains (cond t above (set.intersection requested above)) cpu ≡ true → set.contains above cpu ≡ true) [
-      | true ↦ λ h. h
-      | false ↦ λ h. (and_parts (set.contains requested cpu) (set.contains above cpu) (sym (contains-intersection requested above cpu) ∙ h)).1
-    ]
-
--- what is in effect is in what the root has
-below_root : (requested : GroupEntry → Ids) (top : Ids) (groups : List GroupEntry) (g : Group) (cpu : ℕ)
-    → set.contains (effective requested top groups g) cpu ≡ true → set.contains top cpu ≡ true
-below_root requested top [] g cpu = λ h. h
-below_root requested top (e ∷ older) g cpu =
-    elim (same_group e.group g) as (λ t. set.contains (cond t (standing e.parent (requested e) top (effective requested top older)) (effective requested top older g)) cpu ≡ true → set.contains top cpu ≡ true) [
-      | true ↦ stood (λ p. below_root requested top older p cpu) e.parent
-      | false ↦ below_root requested top older g cpu
-    ]
-  where
-    stood : ((p : Group) → set.contains (effective requested top older p) cpu ≡ true → set.contains top cpu ≡ true) → (o : Option Group)
-        → set.contains (standing o (requested e) top (effective requested top older)) cpu ≡ true → set.contains top cpu ≡ true
-    stood above None h = h
-    stood above (Some p) h = above p (granted_below (requested e) (effective requested top older p) cpu h)
-
-pub stay_below_root : StayBelowRoot
-stay_below_root s g cpu = below_root (λ e. e.cpus) s.online s.groups g cpu
-
-pub partition_is_own : PartitionIsOwn
-partition_is_own inside outside apart g h cpu has =
-    elim (set.contains (effective_cpus outside h) cpu) as (λ t. set.contains (effective_cpus outside h) cpu ≡ t → t ≡ false) [
-      | true ↦ λ is. sym (stay_below_root outside h cpu is) ∙ apart cpu (stay_below_root inside g cpu has)
-      | false ↦ λ _. refl
-    ] refl
 
 -- what is in effect two below the root, for CPUs and for nodes
 two_below : (requested : GroupEntry → Ids) (top : Ids) (s : TreeState) (g : Group) (e above : GroupEntry) → IsWellFormed s → IsTwoBelowRoot s g e above

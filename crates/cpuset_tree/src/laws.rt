@@ -7,7 +7,7 @@ ghost use Rattle.cpuset_tree.specs.TreeAnswers.{make_refusal, remove_refusal, wr
 ghost use Rattle.cpuset_tree.specs.TreeChanges.{with_online};
 ghost use Rattle.cpuset_tree.specs.TreeLaws.{SameIsEqual, EntryIsOwn, RootIsThere, ParentIsThere, NoParentNoChildren};
 ghost use Rattle.cpuset_tree.specs.TreeLaws.{GrantsAll};
-ghost use Rattle.cpuset_tree.specs.TreeLaws.{GrantsWithin, StayBelowRoot, PartitionIsOwn, TwoBelowRoot, SerialIsGiven, WritesLeavePlaces};
+ghost use Rattle.cpuset_tree.specs.TreeLaws.{GrantsWithin, TwoBelowRoot, SerialIsGiven, WritesLeavePlaces};
 ghost use Rattle.cpuset_tree.specs.TreeLaws.{SerialsGivenOnce};
 ghost use Rattle.cpuset_tree.specs.TreeLaws.{CpusWritten, MemsWritten, WritesRequest, AddedLeaves, RemovedLeaves};
 ghost use Rattle.cpuset_tree.specs.TreeLaws.{FoundIsChild};
@@ -46,8 +46,6 @@ pub fn words()
     ensures own { EntryIsOwn }
     ensures all { GrantsAll }
     ensures within { GrantsWithin }
-    ensures below { StayBelowRoot }
-    ensures partition { PartitionIsOwn }
 {}
 
 /// Each serial is below 2^64 - 1.

@@ -2,17 +2,14 @@
 -- From: cgroup v2, `cpuset.cpus.partition`.
 use Rattle.std.specs.Prelude.{◌≡◌, ℕ, true, false, List, Some}
 use Rattle.std.specs.FinSet as set
+use Rattle.cgroup_tree.specs.Partitions.{IsOutside}
 use Rattle.cpuset_tree.specs.Effective.{effective_cpus}
 use Rattle.cpuset_tree.specs.TreeState.{TreeState}
 use Rattle.cpuset_tree.specs.declared.Group.{Group}
 use Rattle.node.specs.NodeState.{ContainerState, NodeState, container_of}
 
--- the groups outside a valid partition root, by the kernel's rule: a tree of their own, whose root has none of the CPUs that the
--- partition has
-abbrev pub IsOutside : (partition rest : TreeState) → Type 0
-IsOutside partition rest = (cpu : ℕ) → set.contains partition.online cpu ≡ true → set.contains rest.online cpu ≡ false
-
--- no group outside has in effect what a container of the node has, whatever they request
+-- no group outside the partition, if the node's groups are in one, has in effect what a container of the node has, whatever they
+-- request
 abbrev pub KeepsOthersOff : NodeState → Type 0
 KeepsOthersOff n =
     (rest : TreeState) → IsOutside n.kernel.tree rest → (id : List ℕ) (c : ContainerState) → container_of n id ≡ Some c → (other : Group) (cpu : ℕ)

@@ -108,7 +108,7 @@ pub fn booted_nodes()
 pub fn partitions()
     ensures { PartitionsKeepOthersOff }
 {
-    cpuset_tree::laws::words();
+    cgroup_tree::laws::partitions();
 }
 
 /// The first process of a modelled kernel gets the pid 2.

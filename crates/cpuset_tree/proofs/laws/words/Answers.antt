@@ -1,5 +1,5 @@
-use Rattle.cpuset_tree.specs.TreeLemmas.{same_is_equal, entry_is_own, grants_all, grants_within, stay_below_root, partition_is_own}
+use Rattle.cpuset_tree.specs.TreeLemmas.{same_is_equal, entry_is_own, grants_all, grants_within}
 use Rattle.cpuset_tree.proofs.laws.words.Goals as goal
 
 pub returns : goal.returns
-returns c = record { same = same_is_equal; own = entry_is_own; all = grants_all; within = grants_within; below = stay_below_root; partition = partition_is_own }
+returns c = record { same = same_is_equal; own = entry_is_own; all = grants_all; within = grants_within }
