@@ -1,5 +1,5 @@
 -- A kernel whose writes are asked of files too.
-use Rattle.std.specs.Prelude.{⊤, ℕ, ◌+◌, Bool, if◌then◌else◌, List, [], ◌∷◌, ◌++◌, ◌⊎◌, Option, Some, None, Result, Ok, Err}
+use Rattle.std.specs.Prelude.{⊤, ℕ, ◌+◌, Bool, true, false, List, [], ◌∷◌, ◌++◌, ◌⊎◌, Option, Some, None, Result, Ok, Err}
 use Rattle.faults.specs.declared.OrMemory.{OrMemory}
 use Rattle.faults.specs.declared.OrMemory.TheVariants.{Memory, Fault}
 use Rattle.kernel_model.specs.declared.KernelFault.{KernelFault}
@@ -20,7 +20,8 @@ IsNamed name answer = IsName name
 -- what is looked at behind a write of CPUs, the newest first: what the group has in effect; and whether the root is a partition
 -- root, if it has to be one
 abbrev pub looks_behind : (partition : Bool) → (root : List ℕ) → (look : Deed) → List Asked
-looks_behind partition root look = if partition then done (Compared (root ++ partition_file) root_line) ∷ done look ∷ [] else done look ∷ []
+looks_behind false root look = done look ∷ []
+looks_behind true root look = done (Compared (root ++ partition_file) root_line) ∷ done look ∷ []
 
 module _ {F H : Type 0} (asked : F → H → List Asked → Type 0) (old : F) where
   -- this alone was asked for, and done, or refused

@@ -7,7 +7,7 @@ use Rattle.cpu_set.specs.PointwiseLaws.{is_same_decides, same_members}
 use Rattle.std.specs.declared.io.ErrorKind.{ErrorKind}
 use Rattle.std.specs.Prelude.{◌⊎◌, Option, Result, Ok, Err, [], ◌∷◌}
 use Rattle.cgroup_tree.specs.Asked.{Asked, Locked, refused}
-use Rattle.cgroup_tree.specs.Roots.{AnswersRoot, Finding, FindsNoMore, IsFolder, IsTaken, IsListOf, IsFound, CantRead, LooksAtLock, LooksAtMachine, LooksAtMems, LooksAtPartition, MachineTells, RootTells, Tells, behind_lock}
+use Rattle.cgroup_tree.specs.Roots.{AnswersRoot, Finding, FindsNoMore, IsFolder, IsTaken, IsListOf, IsFound, CantRead, LooksAtControllers, LooksAtCpus, LooksAtLock, LooksAtMachine, LooksAtMems, LooksAtPartition, MachineTells, RootTells, Tells, behind_lock}
 use Rattle.cgroup_tree.specs.declared.fault.RootFault.{RootFault}
 use Rattle.cgroup_tree.specs.declared.fault.RootFault.TheVariants.{Memory, Taken, Unlocked, Unread, NoCpuset, OtherMachine, NoPartition}
 
@@ -109,6 +109,18 @@ module _ (old new : List ℕ → Finding → Type 0) (less : FindsNoMore old new
   machine_tells_before online nodes adopt (Err (Unlocked kind)) told tells = tells
   machine_tells_before online nodes adopt (Err (Unread kind)) told tells = tells
   machine_tells_before online nodes adopt (Err NoCpuset) told tells = tells
+
+-- a root that has to be a partition root and is none, by the last of the looks behind the lock
+pub partition_refused : (finds : List ℕ → Finding → Type 0) (root : List ℕ) (online nodes memory : Ids) (partition : Bool) (why : RootFault) → LooksAtControllers finds root (Ok tt)
+    → LooksAtCpus finds root online (Ok tt) → LooksAtMems finds root nodes (Ok memory) → LooksAtPartition finds root partition (Err why)
+    → LooksAtMachine finds root online nodes partition (Err why)
+partition_refused finds root online nodes memory partition Memory has are have look = tt
+partition_refused finds root online nodes memory partition Taken has are have look = inr (has, inr (are, inr ((memory, have), look)))
+partition_refused finds root online nodes memory partition (Unlocked kind) has are have look = inr (has, inr (are, inr ((memory, have), look)))
+partition_refused finds root online nodes memory partition (Unread kind) has are have look = inr (has, inr (are, inr ((memory, have), look)))
+partition_refused finds root online nodes memory partition NoCpuset has are have look = inr (has, inr (are, inr ((memory, have), look)))
+partition_refused finds root online nodes memory partition OtherMachine has are have look = inr (has, inr (are, inr ((memory, have), look)))
+partition_refused finds root online nodes memory partition NoPartition has are have look = inr (has, inr (are, inr ((memory, have), look)))
 
 -- why a root is refused: at its lock, and behind it
 module _ (finds : List ℕ → Finding → Type 0) (root : List ℕ) (online nodes : Ids) where

@@ -216,6 +216,7 @@ module _ (finds : List ℕ → Finding → Type 0) (root : List ℕ) where
   abbrev pub TellsPartition : List Asked → Type 0
   TellsPartition told = (text : Option (List ℕ)) × finds (root ++ partition_file) (Has text) × (told ≡ done (Told (root ++ partition_file) (partition_remark text)) ∷ [])
 
+  -- the same by its answer
   abbrev pub PartitionTells : Result (Unit {0}) RootFault → List Asked → Type 0
   PartitionTells (Err root_fault.NoPartition) told = TellsPartition told
   PartitionTells answer told = told ≡ []

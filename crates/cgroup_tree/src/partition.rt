@@ -1,5 +1,5 @@
 //! The file by which a group is a partition root, whose CPUs the kernel keeps all groups outside from.
-ghost use Rattle.std.specs.Prelude.{◌≡◌, ◌↔◌, ◌+◌, ◌≤◌, ◌++◌, [], ◌∷◌, IsTrue, length};
+ghost use Rattle.std.specs.Prelude.{◌≡◌, ◌↔◌, ◌+◌, ◌≤◌, ◌++◌, [], ◌∷◌, IsTrue, length, true};
 ghost use Rattle.std.specs.String.{string_capacity};
 ghost use Rattle.cgroup_tree.specs.Asked.{Asks, AsksSome, Compared, done};
 ghost use Rattle.cgroup_tree.specs.Paths.{partition_file, root_line};
@@ -16,8 +16,7 @@ pub const PARTITION_FILE: &str = "/cpuset.cpus.partition";
 /// What the file of a valid partition root has, whose load the scheduler balances.
 pub const ROOT_LINE: &str = "root\n";
 
-/// Looks whether a root is a partition root, if it has to be one. If it is none, the operator is told what its file has,
-/// or that there is none.
+/// Looks whether a root is a partition root, if it has to be one.
 pub fn look_at_partition<T: GroupTrees>(
     alloc: Global,
     trees: &mut T,
@@ -27,9 +26,18 @@ pub fn look_at_partition<T: GroupTrees>(
     ensures looks { LooksAtPartition (T.finds trees.old) root.now partition result }
     ensures tells { AsksSome T.asked trees.old (PartitionTells (T.finds trees.old) root.now result) trees.new }
 {
-    if !partition {
-        return Ok(());
+    if partition {
+        look_at_file(alloc, trees, root)
+    } else {
+        Ok(())
     }
+}
+
+/// The same of one that has to be. If it is none, the operator is told what its file has, or that there is none.
+fn look_at_file<T: GroupTrees>(alloc: Global, trees: &mut T, root: &str) -> Result<(), RootFault>
+    ensures looks { LooksAtPartition (T.finds trees.old) root.now true result }
+    ensures tells { AsksSome T.asked trees.old (PartitionTells (T.finds trees.old) root.now result) trees.new }
+{
     let path = path_below(alloc, root, PARTITION_FILE)?;
     let Some(text) = trees.read(alloc, path.as_str())? else {
         trees.tell(path.as_str(), Difference::Absent);

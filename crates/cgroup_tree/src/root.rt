@@ -1,5 +1,5 @@
 //! A tree is opened, and what its root has to be before that.
-ghost use Rattle.std.specs.Prelude.{◌≡◌, ◌≢◌, ◌++◌, ◌↔◌, [], ◌∷◌, IfErr, IfOk, IsTrue, MatchOption, MatchResult, None, OnOk};
+ghost use Rattle.std.specs.Prelude.{◌≡◌, ◌≢◌, ◌↔◌, [], ◌∷◌, IfErr, IfOk, IsTrue, MatchOption, MatchResult, None, OnOk};
 ghost use Rattle.std.specs.Prelude.{List, if◌then◌else◌, string_bytes, true};
 ghost use Rattle.std.specs.FinSet as set;
 ghost use Rattle.std.specs.IoError.{error_kind};
