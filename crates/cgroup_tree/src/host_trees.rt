@@ -60,11 +60,7 @@ impl<R: AllocGlobal + Eprint> HostTrees<'_, R> {
     fn tell_text(&self, path: &str, text: &[u8]) {
         let text = str::from_utf8(text).unwrap_or("no text").trim_end();
         let text = if text.is_empty() { "nothing" } else { text };
-        let _ = eprintln!(self.rt;
-            "error: {}: {} in place of root",
-            Shown(path),
-            Shown(text)
-        );
+        let _ = eprintln!(self.rt; "error: {}: {} in place of root", Shown(path), Shown(text));
         if text.starts_with(ISOLATED) {
             let _ = eprintln!(self.rt;
                 "note: {}: no load is balanced there, so all threads of a container may run on one CPU",

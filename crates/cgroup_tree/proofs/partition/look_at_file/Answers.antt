@@ -1,8 +1,8 @@
 -- The file was read, and has the line of a partition root or not; or there is none.
-use Rattle.std.proofs.Common.{List, [], ◌∷◌, ◌++◌, Some, None, refl, subst, sym, ◌∙◌, ◌≡◌, ℕ}
+use Rattle.std.proofs.Common.{[], ◌∷◌, ◌++◌, Some, None, refl, sym, ◌∙◌}
 use Rattle.std.proofs.lemmas.Bool.{both_ways}
 use Rattle.cgroup_tree.specs.Asked.{IsAbsent, Told, done}
-use Rattle.cgroup_tree.specs.Paths.{partition_file, root_line}
+use Rattle.cgroup_tree.specs.Paths.{partition_file}
 use Rattle.cgroup_tree.proofs.partition.look_at_file.Goals as goal
 
 pub returns-in_default-clause-looks : goal.returns-in_default-clause-looks
