@@ -9,10 +9,11 @@
 //! - `MirroredKernel` meets the trait `Kernel`. Its meaning is the modelled kernel's; writes that never came to the
 //!   model count as writes and failures. So all that is proved of failing writes holds of it.
 //! - What each writing call asks of the tree's files is its contract, on top of the trait's (`Mirrors`,
-//!   `MirrorsLook`, `MirrorsBoth`). If it is Ok, it asked for exactly the write that it stands for, and that was
+//!   `MirrorsLooks`, `MirrorsBoth`). If it is Ok, it asked for exactly the write that it stands for, and that was
 //!   done. If it failed, it asked for that write and was refused; a group that is made may fail with nothing asked.
 //!   If something stood against it in the model, it asked for nothing. Behind a write of CPUs `cpuset.cpus.effective`
-//!   is compared with what the model has in effect.
+//!   is compared with what the model has in effect, and, if the root has to be a partition root, the root's
+//!   `cpuset.cpus.partition` with `root`.
 //! - A write takes no memory. There is room for the path of each file of each group, and for the line of any set
 //!   (`HasRoom`): the kernel's making takes it, and a group's. Only a group that is made fails for want of it.
 //! - No path leaves the root: names with a slash, `.` and `..` are refused.
@@ -27,12 +28,15 @@
 //!   one folder. Each group's `cpuset.cpus` is the line of the set that it requests. Its `cpuset.mems` is the line of
 //!   those of its nodes that have memory. This is claimed of what was asked. It holds of the files themselves if they
 //!   do what they answer and nobody else writes.
-//! - What looks at paths may find is a relation of the trait `GroupTrees`. So E113, E115, E116 and the E50 of a second
+//! - What looks at paths may find is a relation of the trait `GroupTrees`. So E113, E115 to E117 and the E50 of a second
 //!   program, or of a root that can't be locked, come exactly if what was found says so. An allocation failure may come
 //!   anywhere, so a body that always answers one meets that too.
+//! - The groups outside a partition root have in effect none of its CPUs, whatever they request, by the kernel's rule
+//!   that the root of these groups has none of them (`laws::partitions`). No file is asked for by which a group becomes
+//!   a partition root or stops being one.
 //! - `GroupTrees` has the list of all that was asked of trees. A root that is refused asks for no more than its lock
-//!   and what is told of it: which CPUs or nodes it lacks, and which it has besides. One that is taken asks for its
-//!   lock, and with `--adopt` for the folders of a run before to be named (`RootTells`).
+//!   and what is told of it: which CPUs or nodes it lacks and has besides, or what its partition file has. One that is
+//!   taken asks for its lock, and with `--adopt` for the folders of a run before to be named (`RootTells`).
 //! - How files were opened is part of their relation, with the folder that they are locked by. No call of theirs
 //!   changes it. So the lock is held from the opening until the files are taken back (`close`), which puts all that
 //!   they were asked for into the list of the trees.

@@ -194,8 +194,8 @@ impl<F: GroupFiles> Mirror<F> {
         answer
     }
 
-    /// Looks whether a group has in effect the CPUs that the model says, and whether the root is still a partition root,
-    /// if it has to be one.
+    /// Looks whether a group has in effect the CPUs that the model says. Looks whether the root is still a partition
+    /// root, if it has to be one.
     fn look(&mut self, group: Group)
         requires path { HasRoom (string_capacity self.old.room.path) (string_bytes self.old.root) self.old.inner.tree }
         requires line { LINE_ROOM ≤ string_capacity self.old.room.line }

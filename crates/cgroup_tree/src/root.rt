@@ -34,8 +34,8 @@ const GROUP: &str = "/numarun";
 pub struct RootOptions {
     /// Whether folders of a run before may be there.
     pub adopt: bool,
-    /// Whether the root has to be a partition root (cgroup v2, `cpuset.cpus.partition`), from which the kernel keeps the
-    /// rest of the host.
+    /// Whether the root has to be a partition root (cgroup v2, `cpuset.cpus.partition`), so that the kernel keeps the
+    /// rest of the host off its CPUs.
     pub partition: bool,
 }
 

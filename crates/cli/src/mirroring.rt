@@ -16,7 +16,9 @@ use crate::note::Note;
 use crate::opens::Opens;
 use crate::run::{finish, refuse, set_up};
 use crate::unrooted::Unrooted;
-use cgroup_tree::{GroupFiles, GroupTrees, MirroredKernel, OpenTree, RootOptions, Sited, open_tree};
+use cgroup_tree::{
+    GroupFiles, GroupTrees, MirroredKernel, OpenTree, RootOptions, Sited, open_tree,
+};
 use machine::Machine;
 use node::Node;
 use runtime::{Bundles, Runner, boot_mirrored, files_of, run_mirrored};

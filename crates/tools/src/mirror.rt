@@ -104,6 +104,8 @@ fn over<S: Sited, R: AllocGlobal + Print>(
     } }
 {
     let room = Room::below(rt.alloc(), root.as_str())?;
-    let mut kernel = MirroredKernel::<FusedFiles<R>, S>::new(inner, root, memory, false, files, room);
+    let mut kernel = MirroredKernel::<FusedFiles<R>, S>::new(
+        inner, root, memory, false, files, room,
+    );
     calls::one_by_one(rt, &mut kernel, lines.as_str())
 }
