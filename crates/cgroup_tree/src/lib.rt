@@ -28,9 +28,9 @@
 //!   one folder. Each group's `cpuset.cpus` is the line of the set that it requests. Its `cpuset.mems` is the line of
 //!   those of its nodes that have memory. This is claimed of what was asked. It holds of the files themselves if they
 //!   do what they answer and nobody else writes.
-//! - What looks at paths may find is a relation of the trait `GroupTrees`. So E113, E115 to E117 and the E50 of a second
-//!   program, or of a root that can't be locked, come exactly if what was found says so. An allocation failure may come
-//!   anywhere, so a body that always answers one meets that too.
+//! - What looks at paths may find is a relation of the trait `GroupTrees`. So E113, E115, E116, E117 and the E50 of a
+//!   second program, or of a root that can't be locked, come exactly if what was found says so. An allocation failure
+//!   may come anywhere, so a body that always answers one meets that too.
 //! - The groups outside a partition root have in effect none of its CPUs, whatever they request, by the kernel's rule
 //!   that the root of these groups has none of them (`laws::partitions`). No file is asked for by which a group becomes
 //!   a partition root or stops being one.
