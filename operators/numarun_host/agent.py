@@ -26,16 +26,16 @@ import argparse
 import dataclasses
 import os
 import select
-import shlex
 import signal
 import subprocess
 import sys
 import tempfile
 import time
-from typing import List, Optional, Sequence
+from typing import Callable, Optional, Sequence
 
-from .cgroups import Groups
+from .cgroups import EACH, Groups
 from .configs import LEAST, NEAR, PIN, STAY, Pin
+from .configuration import Parser, words_in
 from .cpus import Cpus, print_list
 from .decide import answer_to_hook, at_the_end, decide, say_pool_end
 from .doing import POOL_SECONDS, Ending, Hands, PoolCommand
@@ -52,8 +52,8 @@ from .records import KEPT, Certificates
 from .release import release
 from .script import check_program, find_program
 from .sources import Folders, Input, Source
+from .reports import status_of
 from .status import main as say_status
-from .status import status_of
 from .taken import Record, read_record, whole_machine
 
 EXAMPLE = f"""what a container says of itself, by an annotation, or a variable of its process's environment:
@@ -66,7 +66,7 @@ examples, from the top of the repository:
   echo "created database examples/bundles/database" | operators/numarun-agent examples/machines/two-socket.json
   operators/numarun-agent host.json --cgroup /sys/fs/cgroup --watch /run/crun
   operators/numarun-agent --release --cgroup /sys/fs/cgroup"""
-LEAST_PAUSE = 0.01
+LEAST_PAUSE, MOST_PAUSE = 0.01, 86400
 SUBCOMMANDS = ("status", "release", "check-config")
 
 
@@ -125,35 +125,56 @@ class Agent:
             self.hands.do(line)
 
 
-class Parser(argparse.ArgumentParser):
-    """Of a file that `@FILE` names each line has some words, as a shell splits them, and a comment behind #."""
-
-    def convert_arg_line_to_args(self, arg_line: str) -> List[str]:
-        return shlex.split(arg_line, comments=True)
-
-
-def words_of(told: Sequence[str]) -> argparse.Namespace:
+def parser_of_words() -> Parser:
     parser = Parser(description=__doc__, epilog=EXAMPLE, formatter_class=argparse.RawDescriptionHelpFormatter, fromfile_prefix_chars="@")
     parser.add_argument("machine", metavar="MACHINE", nargs="?", help="the machine file")
     parser.add_argument("--version", action="store_true", help="say which numarun it works with, and end")
+    parser.add_argument("--config", metavar="FILE", help="a file of options in TOML, as pool-least = \"10%%\" and watch = [\"/run/crun\"], of which machine "
+                        "is the machine file; what is said beside it counts more, and of what may be said several times all counts")
     add_program(parser)
     add_containers(parser)
     add_rest(parser)
     add_records(parser)
+    return parser
+
+
+def words_of(told: Sequence[str]) -> argparse.Namespace:
+    parser = parser_of_words()
     words = parser.parse_args(told)
-    words.groups = [group.strip("/") for groups in words.rest for group in groups.split(",") if group.strip("/")]
+    if words.config is not None:
+        before, machine = words_in(words.config, parser)
+        words = parser.parse_args([*before, *told])
+        words.machine = words.machine or machine
+    words.groups = [group.strip("/") or EACH for groups in words.rest for group in groups.split(",") if group]
     for option, said in (("--rest", words.groups), ("--release", words.release)):
         if said and not words.cgroup:
             parser.error(f"{option} is of a tree: --cgroup names it")
     if not words.machine and not words.release and not words.version:
         parser.error("no MACHINE")
-    if not LEAST_PAUSE <= words.pause <= 86400 or words.rounds < 0 or words.keep < 1:
-        parser.error(f"--pause is {LEAST_PAUSE} to 86400, --rounds is 0 or more, and --keep 1 or more")
-    if not is_pool_least(words.pool_least):
-        parser.error("--pool-least is a number of CPUs, or of percents")
     if words.watch and not words.online:
         words.online = "/sys/devices/system/cpu/online"
     return words
+
+
+def seconds(text: str) -> float:
+    found = float(text)
+    if not LEAST_PAUSE <= found <= MOST_PAUSE:
+        raise argparse.ArgumentTypeError(f"{text} is not {LEAST_PAUSE} to {MOST_PAUSE} seconds")
+    return found
+
+
+def count_from(least: int) -> Callable[[str], int]:
+    def count(text: str) -> int:
+        if int(text) < least:
+            raise argparse.ArgumentTypeError(f"{text} is below {least}")
+        return int(text)
+    return count
+
+
+def pool_least_text(text: str) -> str:
+    if not is_pool_least(text):
+        raise argparse.ArgumentTypeError(f"{text} is no number of CPUs, nor of percents")
+    return text
 
 
 def add_program(parser: argparse.ArgumentParser) -> None:
@@ -163,9 +184,9 @@ def add_program(parser: argparse.ArgumentParser) -> None:
     group.add_argument("--slit", metavar="FILE", help="the distance table, where MACHINE has no distances")
     group.add_argument("--work", default="/run/numarun", metavar="FOLDER", help="with --cgroup: the agent's own files, which it makes anew, "
                        "and the socket for numarun-hook --wait (%(default)s)")
-    group.add_argument("--pause", type=float, default=1.0, metavar="SECONDS", help="between two looks, if nothing is told (%(default)s)")
-    group.add_argument("--rounds", type=int, default=0, metavar="N", help="end after N looks")
-    group.add_argument("--patience", type=float, default=PATIENCE, metavar="SECONDS", help="that numarun has for an answer; then the agent ends "
+    group.add_argument("--pause", type=seconds, default=1.0, metavar="SECONDS", help="between two looks, if nothing is told (%(default)s)")
+    group.add_argument("--rounds", type=count_from(0), default=0, metavar="N", help="end after N looks")
+    group.add_argument("--patience", type=seconds, default=PATIENCE, metavar="SECONDS", help="that numarun has for an answer; then the agent ends "
                        "(%(default)s)")
     group.add_argument("--release", action="store_true", help="give back to each group what it requested before the agent came, and end")
 
@@ -179,6 +200,8 @@ def add_containers(parser: argparse.ArgumentParser) -> None:
                        f"some, those whose quota is of whole CPUs, or those that say {PIN}=true (%(default)s)")
     group.add_argument("--home", choices=("free", "none"), default="free", help="which nodes of memory one gets that names none: those where "
                        "there is room for it, or none (%(default)s)")
+    group.add_argument("--lift", action="store_true", help="one that has CPUs of its own runs without the limit (cpu.max) of its group, which "
+                       "gets that again when it has none of its own")
     group.add_argument("--nodes", default="/sys/devices/system/node", metavar="FOLDER", help="where the kernel tells the free memory of each node "
                        "(%(default)s)")
 
@@ -186,8 +209,8 @@ def add_containers(parser: argparse.ArgumentParser) -> None:
 def add_rest(parser: argparse.ArgumentParser) -> None:
     group = parser.add_argument_group("the rest of the machine")
     group.add_argument("--rest", action="append", default=[], metavar="GROUPS", help="groups of the system itself, with commas between them, as "
-                       "system.slice,user.slice,init.scope: they are held on the pool, those that are there")
-    group.add_argument("--pool-least", default=POOL_LEAST, metavar="N", help="newcomers wait rather than bring the pool below so many CPUs, or "
+                       "system.slice,user.slice,init.scope: they are held on the pool, those that are there; / is each group of the root")
+    group.add_argument("--pool-least", type=pool_least_text, default=POOL_LEAST, metavar="N", help="newcomers wait rather than bring the pool below so many CPUs, or "
                        "this part of them; of a part two cores are kept at least (%(default)s)")
     group.add_argument("--pool", metavar="COMMAND", help="run this with the pool's list behind it whenever that has changed")
 
@@ -196,12 +219,12 @@ def add_records(parser: argparse.ArgumentParser) -> None:
     group = parser.add_argument_group("what it leaves to read")
     group.add_argument("--textfile", metavar="FILE", help="leave the figures here for node_exporter, as a file of its folder that ends in .prom")
     group.add_argument("--certificates", metavar="FOLDER", help="keep the certificate of each plan and shortage here, by its date")
-    group.add_argument("--keep", type=int, default=KEPT, metavar="N", help="of the certificates the last N (%(default)s)")
+    group.add_argument("--keep", type=count_from(1), default=KEPT, metavar="N", help="of the certificates the last N (%(default)s)")
 
 
 def settings_of(words: argparse.Namespace, machine: Machine, root: Optional[str]) -> Settings:
     return Settings(machine, words.machine, root, Pin(words.pin), words.home == "free", tuple(words.groups),
-                    pool_least_of(words.pool_least, machine), words.pause, words.certificates or "", words.textfile or "", bool(words.pool))
+                    pool_least_of(words.pool_least, machine), words.pause, words.certificates or "", words.textfile or "", bool(words.pool), words.lift)
 
 
 def memory_of(machine: Machine, groups: Optional[Groups]) -> Cpus:
@@ -247,8 +270,7 @@ def main() -> int:
     if subcommand == "check-config":
         return check_config(words)
     if words.release:
-        slices: List[str] = words.groups
-        return release(words.cgroup, words.work, slices)
+        return release(words.cgroup, words.work, [group for group in words.groups if group != EACH])
     machine = Machine(words.machine)
     check_program(words.program)
     ending = Ending()

@@ -13,7 +13,9 @@ from .seen import Group, NoGroup
 
 CONFIG_BYTES = 1 << 20
 FILE_BYTES = 1 << 16
-READ = ("cpuset.cpus", "cpuset.mems", "cpuset.cpus.effective", "cpu.max", "cgroup.events")
+LIMIT = "cpu.max"
+EACH = "/"
+READ = ("cpuset.cpus", "cpuset.mems", "cpuset.cpus.effective", LIMIT, "cgroup.events")
 Texts = Tuple[Optional[str], ...]
 
 
@@ -48,6 +50,11 @@ def limit_in(text: Optional[str]) -> Optional[Limit]:
 def populated_in(text: Optional[str]) -> Optional[bool]:
     found = re.search(r"^populated ([01])$", text or "", re.M)
     return found[1] == "1" if found else None
+
+
+def is_partition(text: Optional[str]) -> bool:
+    """Whether a group is the root of a partition, also one that is invalid at the moment."""
+    return (text or "").startswith(("root", "isolated"))
 
 
 class Groups:
@@ -91,6 +98,12 @@ class Groups:
             return tuple(sorted(entry.name for entry in os.scandir(path) if entry.is_dir(follow_symlinks=False)))
         except OSError:
             return ()
+
+    def named(self, slices: Tuple[str, ...]) -> Tuple[str, ...]:
+        """The groups that --rest names, below the root: `/` names each one of the root that is no partition of its own."""
+        every = self.children(self.root) if EACH in slices else ()
+        each = tuple(name for name in every if not is_partition(read_file(f"{self.root}/{name}/cpuset.cpus.partition")))
+        return tuple(dict.fromkeys(group for name in slices for group in (each if name == EACH else (name,))))
 
     def ways_to(self, slices: Tuple[str, ...], paths: FrozenSet[str]) -> Set[str]:
         """The groups of the system, among these and below them, that are above one of these paths."""

@@ -9,6 +9,7 @@ from .commands import Ask, Drop, Link, SaveTaken, Say, Steps, Taken, Tell, Unlin
 from .configs import Demand, shared
 from .cpus import NO_CPUS, Cpus, print_list
 from .ledger import Container, Kind, Ledger, Sighting, State, Topic, report
+from .lifting import give_back_at_the_end
 from .newcomers import refuse
 from .placing import demand_of
 from .script import Refused
@@ -30,6 +31,7 @@ def end(turn: Turn, container: Container) -> Steps[None]:
     """A container that is gone, or another one now: its link goes first, so that no command reaches its group."""
     ledger, name, seen = turn.ledger, container.name, container.seen
     yield from untell(ledger, name)
+    yield from give_back_at_the_end(turn, container)
     del ledger.containers[name]
     ledger.forget(name)
     if not seen.told.is_system and not turn.came_anew(seen.group) and seen.group.path in ledger.taken:

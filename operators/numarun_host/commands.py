@@ -6,7 +6,7 @@ from dataclasses import dataclass
 from enum import Enum
 from typing import Generator, Mapping, Optional, Tuple, TypeVar, Union
 
-from .configs import Config
+from .configs import Config, Limit
 from .cpus import NO_CPUS, Cpus
 
 
@@ -97,13 +97,25 @@ class Write:
 
 
 @dataclass(frozen=True)
+class SetLimit:
+    """Writes the limit of a group, or that it has none, where that is still this group and has the limit before."""
+
+    path: str
+    inode: int
+    limit: Optional[Limit]
+    before: Optional[Limit]
+
+
+@dataclass(frozen=True)
 class Taken:
-    """What a group requested before the agent took it up, as texts; nothing where that can't be read. `system` is one of the system's."""
+    """What a group requested before the agent took it up, as texts; nothing where that can't be read. `system` is one of the system's;
+    `limit` is that of one that has none now, since it was lifted."""
 
     inode: int
     cpus: Optional[str]
     nodes: Optional[str]
     system: bool
+    limit: Optional[Limit] = None
 
 
 @dataclass(frozen=True)
@@ -123,6 +135,8 @@ class Say:
 
 @dataclass(frozen=True)
 class KeepCertificate:
+    """Keeps a certificate, unless it is the last one again; the file is answered where it is another one."""
+
     lines: Tuple[str, ...]
 
 
@@ -132,24 +146,34 @@ class LeaveFigures:
 
 
 @dataclass(frozen=True)
+class LeaveState:
+    """Keeps what the agent knows for who asks when none runs."""
+
+    state: Mapping[str, object]
+    ended: bool = False
+
+
+@dataclass(frozen=True)
 class RunPool:
     """Runs the command that moves the rest of the machine onto these CPUs; a later look finds how it ended."""
 
     cpus: Cpus
 
 
-Command = Union[Start, Ask, Tell, OpenTrial, CloseTrial, Link, Unlink, Drop, Write, SaveTaken, Say, KeepCertificate, LeaveFigures, RunPool]
+Command = Union[Start, Ask, Tell, OpenTrial, CloseTrial, Link, Unlink, Drop, Write, SetLimit, SaveTaken, Say, KeepCertificate, LeaveFigures,
+                LeaveState, RunPool]
 
 
 @dataclass(frozen=True)
 class Answer:
-    """The lines of numarun's answer, what it said on standard error, why the system refused what was to be done, and whether the agent
-    is told to end."""
+    """The lines of numarun's answer, what it said on standard error, why the system refused what was to be done, whether the agent is told
+    to end, and whether nothing was done, as what was to be replaced is not there any more."""
 
     lines: Tuple[str, ...] = ()
     notes: Tuple[str, ...] = ()
     why: Optional[str] = None
     ending: bool = False
+    stale: bool = False
 
 
 T = TypeVar("T")

@@ -3,15 +3,17 @@ it, and ends with what the agent knows by then. It opens no file, starts nothing
 
 from __future__ import annotations
 
-from typing import Dict, List, Optional, Set, Tuple
+from typing import Dict, List, Optional, Set, Tuple, Union
 
 from .changes import end_those_gone, follow_all, mend_all, undo_late_writes
-from .commands import Ask, Command, LeaveFigures, Level, SaveTaken, Say, Start, Steps
+from .commands import Ask, Command, LeaveFigures, LeaveState, Level, SaveTaken, Say, Start, Steps
 from .cpus import Cpus, print_list
 from .ledger import Kind, Ledger, State, Topic, report, say_unsaid
+from .lifting import lift_all
 from .machine import Machine
 from .newcomers import is_held_up, take_all
 from .plans import arrange
+from .reports import is_news, status_of
 from .script import Refused
 from .seen import Folder, Look
 from .sightings import see_all
@@ -19,8 +21,8 @@ from .slices import let_go
 from .telling import Turn, ask
 
 
-def decide(ledger: Ledger, look: Look) -> Steps[Ledger]:
-    ledger = ledger.copy()
+def decide(before: Ledger, look: Look) -> Steps[Ledger]:
+    ledger = before.copy()
     ledger.titles = look.titles
     turn = Turn(ledger, look)
     count_seconds(ledger, look.now)
@@ -42,11 +44,13 @@ def decide(ledger: Ledger, look: Look) -> Steps[Ledger]:
     if not ledger.ending:
         yield from settle_the_rest(turn)
     yield from leave(turn)
+    if ledger.has_tree and is_news(before, ledger):
+        yield from leave_for_others(ledger, LeaveState(status_of(ledger)), "state")
     return ledger
 
 
 def settle_the_rest(turn: Turn) -> Steps[None]:
-    """Lets go of the system's groups that are above pinned containers, and works out a plan, where one is due."""
+    """Lets go of the system's groups that are above pinned containers, works out a plan, where one is due, and lifts limits."""
     ledger = turn.ledger
     if ledger.has_tree:
         yield from let_go(turn)
@@ -54,6 +58,8 @@ def settle_the_rest(turn: Turn) -> Steps[None]:
         ledger.due, ledger.unmade = True, False
     if ledger.due and ledger.is_over("plan", "", turn.now) and not (yield from is_held_up(turn)):
         yield from arrange(turn)
+    if ledger.has_tree:
+        yield from lift_all(turn)
 
 
 def leave(turn: Turn) -> Steps[None]:
@@ -70,11 +76,15 @@ def leave(turn: Turn) -> Steps[None]:
         yield SaveTaken(ledger.all_taken)
     file = ledger.settings.figures
     if file:
-        why = (yield LeaveFigures(figures_of(ledger))).why
-        if why:
-            yield from report(ledger, Topic.RECORD, file, Kind.FAILED, why)
-        else:
-            ledger.settle(Topic.RECORD, file)
+        yield from leave_for_others(ledger, LeaveFigures(figures_of(ledger)), file)
+
+
+def leave_for_others(ledger: Ledger, command: Union[LeaveFigures, LeaveState], of: str) -> Steps[None]:
+    why = (yield command).why
+    if why:
+        yield from report(ledger, Topic.RECORD, of, Kind.FAILED, why)
+    else:
+        ledger.settle(Topic.RECORD, of)
 
 
 def figures_of(ledger: Ledger) -> Dict[str, float]:
@@ -227,7 +237,7 @@ def start(turn: Turn, reserved: Cpus) -> Steps[bool]:
 
 
 def at_the_end(ledger: Ledger) -> List[Command]:
-    return say_unsaid(ledger)
+    return [*say_unsaid(ledger), *([LeaveState(status_of(ledger), ended=True)] if ledger.has_tree else [])]
 
 
 def answer_to_hook(ledger: Ledger, name: str) -> Optional[Dict[str, str]]:

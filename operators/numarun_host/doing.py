@@ -13,16 +13,17 @@ import sys
 import time
 from typing import Callable, Dict, List, Optional, Tuple, Type
 
-from .commands import (Answer, Ask, CloseTrial, Command, Drop, KeepCertificate, LeaveFigures, Link, OpenTrial, RunPool, SaveTaken, Say, Start,
-                       Steps, T, Tell, Unlink, Verb, Write)
+from .cgroups import LIMIT, limit_in, read_file
+from .commands import (Answer, Ask, CloseTrial, Command, Drop, KeepCertificate, LeaveFigures, LeaveState, Link, OpenTrial, RunPool, SaveTaken, Say,
+                       SetLimit, Start, Steps, T, Tell, Unlink, Verb, Write)
 from .cpus import print_list
 from .links import CPUS_IN_EFFECT, NODES_IN_EFFECT, Links
 from .log import say
 from .machine import parse_machine
 from .program import Run
-from .records import Certificates, leave_figures
+from .records import LAST_STATE, Certificates, leave_figures, leave_state
 from .script import Refused
-from .taken import Record, write_file
+from .taken import Record, write_file, write_limit
 
 EFFECTIVE_NOTE = re.compile(r"\S+/cpuset\.cpus\.effective: ")  # the agent compares these itself
 POOL_SECONDS = 30  # that --pool's command has
@@ -104,8 +105,9 @@ class Hands:
         self.trial: Optional[Run] = None
         self.ways: Dict[Type[object], Callable[..., Answer]] = {
             Start: self.start, Ask: self.ask, Tell: self.tell, OpenTrial: self.open_trial, CloseTrial: self.close_trial, Link: self.link,
-            Unlink: self.unlink, Drop: self.drop, Write: self.write, SaveTaken: self.save_taken, Say: self.say,
-            KeepCertificate: self.keep_certificate, LeaveFigures: self.leave_figures, RunPool: self.run_pool}
+            Unlink: self.unlink, Drop: self.drop, Write: self.write, SetLimit: self.set_limit, SaveTaken: self.save_taken, Say: self.say,
+            KeepCertificate: self.keep_certificate, LeaveFigures: self.leave_figures, LeaveState: self.leave_state,
+            RunPool: self.run_pool}
 
     def do(self, command: Command) -> Answer:
         return self.ways[type(command)](command)
@@ -199,6 +201,21 @@ class Hands:
     def write(self, command: Write) -> Answer:
         return Answer(why=write_file(os.path.join(command.path, command.file), command.text))
 
+    def set_limit(self, command: SetLimit) -> Answer:
+        try:
+            folder = os.open(command.path, os.O_RDONLY | os.O_DIRECTORY | os.O_CLOEXEC)
+        except OSError:
+            return Answer(stale=True)
+        try:
+            path = f"/proc/self/fd/{folder}/{LIMIT}"
+            found = read_file(path)
+            if os.fstat(folder).st_ino != command.inode or found is None or limit_in(found) != command.before:
+                return Answer(stale=True)
+            why = write_limit(path, command.limit)
+            return Answer(why=why and f"{command.path}/{LIMIT}: {why.rpartition(': ')[2]}")
+        finally:
+            os.close(folder)
+
     def save_taken(self, command: SaveTaken) -> Answer:
         if self.links:
             self.record.save(command.groups)
@@ -212,14 +229,21 @@ class Hands:
 
     def keep_certificate(self, command: KeepCertificate) -> Answer:
         try:
-            self.certificates.keep(command.lines)
+            path = self.certificates.keep(command.lines)
         except Refused as why:
             return Answer(why=str(why))
-        return Answer()
+        return Answer((path,) if path else ())
 
     def leave_figures(self, command: LeaveFigures) -> Answer:
         try:
             leave_figures(self.figures, command.figures)
+        except Refused as why:
+            return Answer(why=str(why))
+        return Answer()
+
+    def leave_state(self, command: LeaveState) -> Answer:
+        try:
+            leave_state(os.path.join(self.work, LAST_STATE), command.state, command.ended)
         except Refused as why:
             return Answer(why=str(why))
         return Answer()

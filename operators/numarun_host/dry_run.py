@@ -16,12 +16,12 @@ import os
 import sys
 import tempfile
 from dataclasses import dataclass
-from typing import Dict, List, Optional, Tuple
+from typing import Dict, List, Optional
 
 from .answers import Answers, Plan, counted
 from .configs import NEAR, Config, Pin, asked, cpus_allowed, housed, nodes_named, parse_text, shared, wish_of
 from .cpus import NO_CPUS, Cpus, print_list, read_list
-from .devices import node_of_device
+from .devices import node_of_device, why_there
 from .explain import explain, laid_out
 from .homes import free_memory, home_of
 from .machine import Machine
@@ -33,6 +33,15 @@ from .script import BYTES, Refused, check_program, find_program, read_text
 EXAMPLE = """examples, from the top of the repository:
   operators/numarun-dry-run examples/machines/two-socket.json examples/bundles/real-time --after examples/scripts/a-cpu-goes
   operators/numarun-dry-run host.json --cpus 4 --cpuset-mems 1 --running /run/crun --online /sys/devices/system/cpu/online"""
+
+
+@dataclass(frozen=True)
+class Housed:
+    """A bundle as the agent would tell it, the home that it would give it, and why."""
+
+    bundle: str
+    home: Optional[Cpus] = None
+    why: str = ""
 
 
 @dataclass
@@ -53,20 +62,22 @@ def asked_for(words: argparse.Namespace, folder: str) -> str:
     if words.cpus is not None:
         section.update(quota=max(1, round(words.cpus * 100000)), period=100000)
     if words.bundle is not None:
-        if section:
+        if section or words.near is not None:
             raise Refused("a bundle tells what it asks for, so that no option can")
         return str(words.bundle)
     if not section:
         raise Refused("no container: name its bundle, or what it asks for (see --help)")
-    config = {"ociVersion": "1.0.2", "root": {"path": "rootfs"}, "linux": {"resources": {"cpu": section}}}
+    config: Dict[str, object] = {"ociVersion": "1.0.2", "root": {"path": "rootfs"}, "linux": {"resources": {"cpu": section}}}
+    if words.near is not None:
+        config["annotations"] = {NEAR: words.near}
     with open(os.path.join(folder, "config.json"), "w") as file:
         json.dump(config, file)
     return folder
 
 
-def with_home(trial: Trial, before: Dict[str, Cpus], bundle: str) -> Tuple[str, Optional[Cpus]]:
-    """The bundle as the agent would tell it: with a home, where it would give it one, or as one that is shared by --pin; and that home. A
-    shared container has reserved CPUs, so that the others are those of pinned ones."""
+def with_home(trial: Trial, before: Dict[str, Cpus], bundle: str) -> Housed:
+    """The bundle as the agent would tell it: with a home, where it would give it one, or as one that is shared by --pin. A shared container has
+    reserved CPUs, so that the others are those of pinned ones."""
     machine, words = trial.machine, trial.words
     try:
         config = parse_text(read_text(os.path.join(bundle, "config.json"), BYTES), bundle)
@@ -74,18 +85,18 @@ def with_home(trial: Trial, before: Dict[str, Cpus], bundle: str) -> Tuple[str, 
         free = (trial.there - machine.reserved).difference(*(cpus for cpus in before.values() if not cpus & machine.reserved))
         free &= cpus_allowed(config, machine.present)
     except Refused:
-        return bundle, None  # numarun refuses it
+        return Housed(bundle)  # numarun refuses it
     if count is None and rather is not None:
-        return written(trial, shared(config).config), None
+        return Housed(written(trial, shared(config).config))
     if words.home == "none" or not count:
-        return bundle, None
+        return Housed(bundle)
     device = wish_of(config, NEAR)
     near = node_of_device(device) if device is not None and not nodes_named(config) else None
     home = home_of(machine, config, count, free, free_memory(words.nodes, machine) if words.nodes else {})
     home = frozenset({near}) if near is not None and near < len(machine.nodes) > 1 else home
     if not home or home == frozenset(machine.node_of.values()):
-        return bundle, None
-    return written(trial, housed(config, home)), home
+        return Housed(bundle)
+    return Housed(written(trial, housed(config, home)), home, why_there(device, near, home))
 
 
 def written(trial: Trial, config: Config) -> str:
@@ -117,8 +128,8 @@ def create_all(trial: Trial) -> None:
     for name in names:
         bundle = os.path.join(running, name)
         if name.split() == [name] and os.path.isfile(os.path.join(bundle, "config.json")):
-            told, _ = with_home(trial, requested(numarun), bundle)
-            answer = numarun.ask(f"create {name} {told}")[0]
+            told = with_home(trial, requested(numarun), bundle)
+            answer = numarun.ask(f"create {name} {told.bundle}")[0]
             if answer.startswith("refused"):
                 print(f"{os.path.basename(sys.argv[0])}: passed over: {bundle}: {answer}", file=sys.stderr)
             elif trial.words.home != "none":
@@ -151,13 +162,13 @@ def requested(numarun: Run) -> Dict[str, Cpus]:
     return found
 
 
-def where(name: str, plan: Plan, before: Dict[str, Cpus], home: Optional[Cpus]) -> List[str]:
+def where(name: str, plan: Plan, before: Dict[str, Cpus], told: Housed) -> List[str]:
     """What a plan with the newcomer says of it and of the others."""
     titles = Names().titles(before)
     if name in plan.holds:
         lines = [f"{name} would have {print_list(plan.holds[name])}: {counted(len(plan.holds[name]))}, distance {plan.distance(name)}"]
         lines += [f"  far: {print_list(cpus)} at {distance}" for distance, cpus in sorted(plan.far(name).items())]
-        lines += [f"its home would be node{'s' * (len(home) > 1)} {print_list(home)}"] if home else []
+        lines += [f"its home would be node{'s' * (len(told.home) > 1)} {print_list(told.home)}{told.why}"] if told.home else []
     else:
         lines = [f"{name} asks for no CPUs of its own, and would run on the pool: {print_list(plan.pool or NO_CPUS)}"]
     moved = 0
@@ -172,11 +183,11 @@ def try_it(trial: Trial, bundle: str) -> int:
     set_up(trial)
     words, numarun = trial.words, trial.numarun
     before = requested(numarun)
-    bundle, home = with_home(trial, before, bundle)
+    told = with_home(trial, before, bundle)
     name = words.id or next(name for name in ["new"] + [f"new-{k}" for k in range(2, 9999)] if name not in before)
-    answer = numarun.ask(f"create {name} {bundle}")[0]
+    answer = numarun.ask(f"create {name} {told.bundle}")[0]
     if answer.startswith("refused"):
-        raise Refused(f"{bundle if words.bundle else 'what is asked for'}: {answer}")
+        raise Refused(f"{told.bundle if words.bundle else 'what is asked for'}: {answer}")
     outcome = numarun.ask("begin")
     if outcome[0].startswith("refused"):
         raise Refused(f"{numarun.program}: {outcome[0]}")
@@ -188,7 +199,7 @@ def try_it(trial: Trial, bundle: str) -> int:
         print(laid_out([f"{name} has no place: it would leave {left} to the pool, and that keeps {least} (see --pool-least)"]))
         return 1
     if isinstance(plan, Plan):
-        print(laid_out(where(name, plan, before, home)))
+        print(laid_out(where(name, plan, before, told)))
         return 0
     print(laid_out([f"{name} has no place", *explain(answers.certificates[0], trial.machine)]))
     return 1
@@ -201,6 +212,7 @@ def words_of() -> argparse.Namespace:
     parser.add_argument("--cpus", type=float, metavar="N", help="how many CPUs it asks for")
     parser.add_argument("--cpuset-cpus", metavar="LIST", help="the CPUs that it may have")
     parser.add_argument("--cpuset-mems", metavar="LIST", help="the nodes of its memory")
+    parser.add_argument("--near", metavar="NAME", help="the network interface, block device or PCI address that it wants to be near")
     parser.add_argument("--home", choices=("free", "none"), default="free", help="which nodes one has that names none, as the agent's --home (%(default)s)")
     parser.add_argument("--nodes", metavar="FOLDER", help="where the kernel tells the free memory of each node, as /sys/devices/system/node, "
                         "which it is with --running")

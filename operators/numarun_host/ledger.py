@@ -97,6 +97,7 @@ class Topic(Enum):
     STAYS = "stays"
     DRIFT = "drift"
     SQUEEZED = "squeezed"
+    LIMIT = "limit"
     UNSEEN = "unseen"
     SLICE = "slice"
     PROCESSES = "processes"
@@ -140,7 +141,8 @@ class Problem:
 
 
 Key = Tuple[Topic, str]
-CONTAINER_TOPICS = (Topic.CONTAINER, Topic.STAYS, Topic.DRIFT, Topic.SQUEEZED)
+CONTAINER_PAUSES = ("container", "limit")
+CONTAINER_TOPICS = (Topic.CONTAINER, Topic.STAYS, Topic.DRIFT, Topic.SQUEEZED, Topic.LIMIT)
 
 
 @dataclass(frozen=True)
@@ -160,12 +162,13 @@ class Settings:
     root: Optional[str] = None  # of the tree; nothing where no writes are to be made
     pin: Pin = Pin.ALL
     homes: bool = True
-    slices: Tuple[str, ...] = ()  # the groups of the system that are to be on the pool, below the root
+    slices: Tuple[str, ...] = ()  # what --rest names
     pool_least: int = 0  # newcomers wait rather than bring the pool below so many CPUs
     pause: float = 1.0
     certificates: str = ""
     figures: str = ""
     pool: bool = False
+    lift: bool = False  # whether one that has CPUs of its own has no limit
 
 
 COUNTERS = ("plans_total", "moves_total", "steps_total", "shortages_total", "refused_writes_total", "distance", "distance_beyond_local")
@@ -206,6 +209,7 @@ class Ledger:
     counts: Dict[str, int] = field(default_factory=lambda: dict.fromkeys(COUNTERS, 0))
     times: Dict[str, float] = field(default_factory=lambda: dict.fromkeys(TIMES, 0.0))
     looked: Optional[float] = None  # when it looked last
+    certificate: str = ""           # the file of the last one that was kept
 
     def copy(self) -> Ledger:
         """Another one, of which each part can be changed by itself."""
@@ -251,7 +255,8 @@ class Ledger:
             self.settle(topic, name)
         for kept in (self.refused, self.blocking):
             kept.pop(name, None)
-        self.pauses.pop(("container", name), None)
+        for what in CONTAINER_PAUSES:
+            self.pauses.pop((what, name), None)
 
     def is_over(self, what: str, of: str, now: float) -> bool:
         """Whether what failed may be tried again."""

@@ -43,14 +43,15 @@ class Eyes:
         told = {name: self.container(ledger, name, one) for name, one in self.source.told.items()}
         self.configs = {name: config for name, config in self.configs.items() if name in told}
         self.found = {name: found for name, found in self.found.items() if name in told}
+        slices = self.groups.named(self.settings.slices) if self.groups and self.settings.slices else ()
         below: Mapping[str, Tuple[str, ...]] = {}
         groups: Mapping[str, Union[Group, NoGroup]] = {}
         busy: FrozenSet[str] = frozenset()
         if self.groups:
-            groups, below, busy = self.look_at_groups(self.groups, ledger, told)
+            groups, below, busy = self.look_at_groups(self.groups, ledger, told, slices)
         wrong, events = tuple(self.source.wrong), tuple(self.source.events)
         self.source.wrong, self.source.events = [], []
-        return Look(now, told, groups, self.online, events, wrong, self.memory(), below, busy, self.source.folders, self.source.doubles,
+        return Look(now, told, groups, self.online, events, wrong, self.memory(), slices, below, busy, self.source.folders, self.source.doubles,
                     self.names.titles(self.source.told, ledger.containers), fault)
 
     # Containers.
@@ -97,16 +98,16 @@ class Eyes:
 
     # Groups.
 
-    def look_at_groups(self, groups: Groups, ledger: Ledger, told: Mapping[str, Union[Found, Missing]]
+    def look_at_groups(self, groups: Groups, ledger: Ledger, told: Mapping[str, Union[Found, Missing]], slices: Tuple[str, ...]
                        ) -> Tuple[Mapping[str, Union[Group, NoGroup]], Mapping[str, Tuple[str, ...]], FrozenSet[str]]:
         """Those of containers that are told, or were, those that an agent took, and those of the system; what is below these; and which have
         processes of their own."""
         found: Dict[str, Union[Group, NoGroup]] = {one.group.path: one.group for one in told.values() if isinstance(one, Found)}
         paths: Set[str] = {container.seen.group.path for container in ledger.containers.values()}
         paths |= {path for path, _ in ledger.before.values() if path} | ledger.taken.keys() | ledger.renewed.keys()
-        ways = groups.ways_to(self.settings.slices, frozenset(paths | found.keys())) if self.settings.slices else set()
+        ways = groups.ways_to(slices, frozenset(paths | found.keys())) if slices else set()
         below = {path: groups.children(path) for path in ways}
-        paths |= ways | {f"{groups.root}/{name}" for name in self.settings.slices}
+        paths |= ways | {f"{groups.root}/{name}" for name in slices}
         paths |= {f"{path}/{child}" for path, children in below.items() for child in children}
         found.update((path, groups.look_at(path)) for path in paths - found.keys())
         groups.end_look()

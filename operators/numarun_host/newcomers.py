@@ -2,6 +2,7 @@
 
 from __future__ import annotations
 
+import dataclasses
 import re
 from collections import Counter
 from dataclasses import dataclass
@@ -57,8 +58,10 @@ def keep_what_they_had(turn: Turn, come: List[Sighting]) -> Steps[None]:
     for sighting in come if ledger.has_tree else []:
         group, before = sighting.group, ledger.taken.get(sighting.group.path)
         if before is None or before.inode != group.inode:
-            ledger.taken[group.path] = Taken(group.inode, *group.texts, sighting.told.is_system)
-            new = True
+            before = None
+        taken = dataclasses.replace(before or Taken(group.inode, *group.texts, False), system=sighting.told.is_system)
+        if taken != before:
+            ledger.taken[group.path], new = taken, True
     if new:
         yield SaveTaken(ledger.all_taken)
 

@@ -7,6 +7,7 @@ from typing import Optional
 from .commands import Say, Steps
 from .configs import NEAR, Config, Demand, Pin, asked, cpus_allowed, housed, limited, nodes_named, shared, wish_of
 from .cpus import NO_CPUS, Cpus, print_list
+from .devices import why_there
 from .homes import home_of
 from .ledger import Container, Ledger, Sighting, State
 from .script import Refused
@@ -86,5 +87,5 @@ def say_home(ledger: Ledger, name: str) -> Steps[None]:
     home = None if given else nodes_named(container.demand.config) or None
     ledger.change(name, home=home)
     if home and home != container.home:
-        device = wish_of(container.seen.config, NEAR) if home == {container.seen.near} else None
-        yield Say(f"home {ledger.title(name)} {print_list(home)}" + (f": {device} is there" if device else ""))
+        why = why_there(wish_of(container.seen.config, NEAR), container.seen.near, home)
+        yield Say(f"home {ledger.title(name)} {print_list(home)}{why}")

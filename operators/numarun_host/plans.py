@@ -57,11 +57,12 @@ def plan(turn: Turn) -> Steps[None]:
 
 def keep_certificate(ledger: Ledger) -> Steps[None]:
     reply = yield from ask(ledger, Ask("certificate"))
-    why = (yield KeepCertificate(reply.lines)).why
+    kept = yield KeepCertificate(reply.lines)
     folder = ledger.settings.certificates
-    if why:
-        yield from report(ledger, Topic.RECORD, folder, Kind.FAILED, why)
+    if kept.why:
+        yield from report(ledger, Topic.RECORD, folder, Kind.FAILED, kept.why)
     else:
+        ledger.certificate = kept.lines[0] if kept.lines else ledger.certificate
         ledger.settle(Topic.RECORD, folder)
 
 

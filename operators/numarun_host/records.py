@@ -1,7 +1,9 @@
-"""What the agent leaves for others to read: its figures as a textfile of node_exporter, and the certificate of each plan by its date."""
+"""What the agent leaves for others to read: its figures as a textfile of node_exporter, its last state, and the certificate of each plan by its
+date."""
 
 from __future__ import annotations
 
+import json
 import os
 import time
 from datetime import datetime, timezone
@@ -11,6 +13,7 @@ from .script import Refused, replace_file
 
 KEPT, KEPT_BYTES = 1000, 256 << 20  # certificates, and their bytes, that are kept
 SUFFIX = "Z.certificate"
+LAST_STATE = "status.json"
 FIGURES = {
     "plans_total": ("counter", "plans that were handed over to the end"),
     "moves_total": ("counter", "CPUs that a container got which its group did not request before"),
@@ -40,6 +43,12 @@ def leave_figures(path: str, figures: Mapping[str, float]) -> None:
     replace_file(path, text_of({**figures, "look_timestamp_seconds": int(time.time())}))
 
 
+def leave_state(path: str, state: Mapping[str, object], ended: bool) -> None:
+    """The agent's last state, with when that was."""
+    now = datetime.now(timezone.utc).isoformat(timespec="seconds")
+    replace_file(path, json.dumps({"running": False, "ended": ended, "time": now, **state}) + "\n")
+
+
 class Certificates:
     """A folder of the last certificates."""
 
@@ -52,14 +61,16 @@ class Certificates:
             except OSError as why:
                 raise Refused(f"{folder}: {why.strerror}") from None
 
-    def keep(self, lines: Tuple[str, ...]) -> None:
-        """Keeps a certificate, unless it is the last one again."""
+    def keep(self, lines: Tuple[str, ...]) -> Optional[str]:
+        """Keeps a certificate, unless it is the last one again; its file."""
         if lines == self.last or not lines[0].startswith("numarun-certificate"):
-            return
+            return None
         self.last = lines
         name = datetime.now(timezone.utc).strftime("%Y-%m-%dT%H-%M-%S.%f")[:-3] + SUFFIX
-        replace_file(os.path.join(self.folder, name), "\n".join(lines) + "\n")
+        path = os.path.join(self.folder, name)
+        replace_file(path, "\n".join(lines) + "\n")
         self.drop_old()
+        return path
 
     def drop_old(self) -> None:
         """Takes the oldest certificates away, so that the folder is bounded."""

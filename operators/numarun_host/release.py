@@ -6,11 +6,11 @@ from __future__ import annotations
 import os
 from typing import Optional, Sequence
 
-from .cgroups import read_file
+from .cgroups import LIMIT, limit_in, read_file
 from .commands import Taken
 from .links import CPUS_IN_EFFECT, NODES_IN_EFFECT, Links
 from .slices import FILES
-from .taken import Whole, read_record, write_file
+from .taken import Whole, read_record, write_file, write_limit
 
 
 def release(root: str, work: str, slices: Sequence[str]) -> int:
@@ -25,9 +25,9 @@ def release(root: str, work: str, slices: Sequence[str]) -> int:
             print(f"failed {why}")
             status = 1
             continue
-        has = [read_file(os.path.join(path, file)) or "-" for file in FILES]
-        print(f"given back {path}: cpus {has[0]} mems {has[1]}")
-        record.groups.pop(path, None)
+        has, taken = [read_file(os.path.join(path, file)) or "-" for file in FILES], record.groups.pop(path, None)
+        limit = f" {LIMIT} {read_file(os.path.join(path, LIMIT))}" if taken and taken.limit else ""
+        print(f"given back {path}: cpus {has[0]} mems {has[1]}{limit}")
     if record.groups:
         record.save(record.groups)
     elif os.path.exists(record.path):
@@ -44,4 +44,11 @@ def give_back(path: str, taken: Taken, whole: Whole) -> Optional[str]:
         why = write_file(os.path.join(path, file), everything or "") if why and not text else why
         if why:
             return why
-    return None
+    return give_limit_back(os.path.join(path, LIMIT), taken)
+
+
+def give_limit_back(path: str, taken: Taken) -> Optional[str]:
+    """Lets a group have the limit again that was lifted, if nobody gave it another one since; why it can't, or nothing."""
+    found = read_file(path)
+    lifted = taken.limit and found is not None and limit_in(found) is None
+    return write_limit(path, taken.limit) if lifted else None

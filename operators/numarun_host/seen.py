@@ -105,8 +105,8 @@ class Double:
 
 @dataclass(frozen=True)
 class Look:
-    """All that a look finds. `below` has the groups that are right below one of the system's, and `busy` those that have processes of
-    their own; `fault` is why what is told could not be read anew."""
+    """All that a look finds. `slices` are the groups of the system that are to be on the pool, below the root; `below` has those that are
+    right below one of these, and `busy` those that have processes of their own; `fault` is why what is told could not be read anew."""
 
     now: float
     told: Mapping[str, Union[Found, Missing]] = field(default_factory=dict)
@@ -115,6 +115,7 @@ class Look:
     events: Tuple[str, ...] = ()
     wrong: Tuple[str, ...] = ()
     free_memory: Mapping[int, Optional[int]] = field(default_factory=dict)
+    slices: Tuple[str, ...] = ()
     below: Mapping[str, Tuple[str, ...]] = field(default_factory=dict)
     busy: FrozenSet[str] = frozenset()
     folders: Tuple[Folder, ...] = ()

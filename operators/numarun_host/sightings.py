@@ -8,7 +8,8 @@ from typing import Dict, Optional, Set, Tuple, Union
 from .commands import Steps
 from .configs import Limit, bare, nodes_named, other_limit
 from .cpus import NO_CPUS, Cpus
-from .ledger import CONTAINER_TOPICS, Container, Kind, Ledger, Problem, Sighting, Topic, report
+from .ledger import CONTAINER_PAUSES, CONTAINER_TOPICS, Container, Kind, Ledger, Problem, Sighting, Topic, report
+from .lifting import limit_of
 from .seen import Found, Group, Missing, Told
 from .slices import rest_of
 from .telling import Turn
@@ -36,7 +37,7 @@ def see_all(turn: Turn) -> Steps[None]:
 def forget_those_gone(ledger: Ledger, names: Set[str]) -> None:
     """Nothing is kept of who is not one of these, and was not told of either."""
     kept = {of for topic, of in ledger.problems if topic in CONTAINER_TOPICS} | ledger.refused.keys() | ledger.blocking.keys()
-    kept |= {of for what, of in ledger.pauses if what == "container"}
+    kept |= {of for what, of in ledger.pauses if what in CONTAINER_PAUSES}
     for name in kept - names - ledger.containers.keys():
         ledger.forget(name)
 
@@ -70,7 +71,7 @@ def limits(ledger: Ledger, name: str, found: Found) -> Tuple[Optional[Limit], Op
     has = container.nodes if container else nodes_named(found.config)
     if not nodes or nodes == written(ledger, has) or not are_known(ledger, nodes):
         nodes = container.followed if container else None
-    return other_limit(found.config, found.group.limit), nodes
+    return other_limit(found.config, limit_of(ledger, found.group)), nodes
 
 
 def written(ledger: Ledger, nodes: Optional[Cpus]) -> Cpus:
@@ -130,6 +131,8 @@ def see_left_by_one_before(turn: Turn) -> Steps[None]:
 def is_same(ledger: Ledger, container: Container, sighting: Sighting) -> bool:
     """Whether it is the container that numarun was told of: its group is the same, and was not made anew since."""
     before = container.seen
+    if sighting.told.is_system != before.told.is_system:
+        return False
     if (sighting.stamp, sighting.group.inode) == (before.stamp, before.group.inode):
         return True
     if (sighting.group.path, sighting.group.inode) != (before.group.path, before.group.inode):

@@ -36,12 +36,12 @@ def is_below(path: str, above: Optional[str]) -> bool:
 def rest_of(turn: Turn) -> Tuple[Rest, Dict[str, str]]:
     """The groups that are to be on the pool, and those that are on the way to a pinned container, with that container."""
     ledger = turn.ledger
-    if not ledger.settings.slices:
+    if not turn.look.slices:
         return {}, {}
     ways = {sighting.group.path: name for name, sighting in turn.there.items() if asks(ledger, name, sighting)}
     containers = frozenset(sighting.group.path for sighting in turn.there.values())
     on_the_way: Dict[str, str] = {}
-    found = [group for name in ledger.settings.slices if is_there(turn, name) for group in below(turn, name, ways, containers, on_the_way)]
+    found = [group for name in turn.look.slices if is_there(turn, name) for group in below(turn, name, ways, containers, on_the_way)]
     return {id_of(name): found_of(turn, name) for name in found}, on_the_way
 
 
@@ -104,7 +104,7 @@ def let_go(turn: Turn) -> Steps[None]:
     ledger, ways = turn.ledger, turn.on_the_way
     held = {sighting.group.path for sighting in turn.there.values()}
     paths = {path for path, taken in ledger.taken.items() if taken.system}
-    paths |= {path_of(ledger, name) for name in ledger.settings.slices} & ways.keys()
+    paths |= {path_of(ledger, name) for name in turn.look.slices} & ways.keys()
     for path in sorted(paths - held):
         group = turn.look.group(path)
         listed = group.cpus if group else NO_CPUS

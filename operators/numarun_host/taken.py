@@ -6,10 +6,10 @@ from __future__ import annotations
 import json
 import os
 from dataclasses import dataclass, field
-from typing import Dict, Mapping, Optional, Tuple
+from typing import Dict, List, Mapping, Optional, Tuple
 
 from .commands import Taken
-from .configs import parse_text
+from .configs import Limit, is_number, parse_text
 from .cpus import Cpus, print_list
 from .script import Refused, read_text, replace_file
 
@@ -30,6 +30,11 @@ def write_file(path: str, text: str) -> Optional[str]:
     return None
 
 
+def write_limit(path: str, limit: Optional[Limit]) -> Optional[str]:
+    """The same of a limit, or that there is none, whose period stays as it is then."""
+    return write_file(path, f"{limit[0]} {limit[1]}" if limit else "max")
+
+
 @dataclass
 class Record:
     """The file: what was taken of each group that is there as it was then, and of those in whose place another group is by now."""
@@ -40,8 +45,13 @@ class Record:
     renewed: Dict[str, Taken] = field(default_factory=dict)
 
     def save(self, groups: Mapping[str, Taken]) -> None:
-        entries = {path: [taken.inode, taken.cpus, taken.nodes, taken.system] for path, taken in groups.items()}
+        entries = {path: entry_of(taken) for path, taken in groups.items()}
         replace_file(self.path, json.dumps({"all": list(self.whole), "groups": entries}))
+
+
+def entry_of(taken: Taken) -> List[object]:
+    """An entry of the file, which has a fifth member where a limit was lifted."""
+    return [taken.inode, taken.cpus, taken.nodes, taken.system, *([list(taken.limit)] if taken.limit else [])]
 
 
 def read_record(work: str) -> Record:
@@ -69,11 +79,19 @@ def whole_of(found: object) -> Whole:
 
 
 def taken_of(entry: object) -> Optional[Taken]:
-    if not isinstance(entry, list) or len(entry) != 4:
+    if not isinstance(entry, list) or len(entry) not in (4, 5):
         return None
-    inode, cpus, nodes, system = entry
+    inode, cpus, nodes, system = entry[:4]
     texts = all(text is None or isinstance(text, str) for text in (cpus, nodes))
-    return Taken(inode, cpus, nodes, bool(system)) if isinstance(inode, int) and texts else None
+    return Taken(inode, cpus, nodes, bool(system), limit_of(entry[4:])) if isinstance(inode, int) and texts else None
+
+
+def limit_of(members: List[object]) -> Optional[Limit]:
+    """The limit that an entry ends with, if it has one."""
+    found = members[0] if members else None
+    if isinstance(found, list) and len(found) == 2 and all(is_number(part) and part > 0 for part in found):
+        return found[0], found[1]
+    return None
 
 
 def inode_of(path: str) -> Optional[int]:

@@ -130,13 +130,14 @@ def status():
     agent.until("done")
     found, out, err = told("numarun-agent", "status", "--agent", site.at("work/hooks"))
     lines = [line.split() for line in out.splitlines()]
-    check("a table", (found, err, lines[0], lines[2:6]), (0, "", ["pool", "0,3-7,", "reserved", "0,", "offline", "-"], [
+    check("a table", (found, err, lines[0], lines[1], lines[3:7]), (0, "", ["pool", "0,3-7,", "reserved", "0,", "offline", "-"], ["plan", "total", "20"], [
         ["container", "state", "CPUs", "nodes", "asks", "why"], ["a", "pinned", "1-2", "0", "2"], ["s", "shared", "0,3-7", "0", "-"],
         "big waiting 0,3-7 0 7 waits big: short demand 9 allowed 1-7: it runs on the pool until there is room".split()]))
     known = json.loads(told("numarun-agent", "status", "--json", "--agent", site.at("work/hooks"))[1])
     check("as JSON", ([(entry["id"], entry["state"], entry["given"]) for entry in known["containers"]], [entry["kind"] for entry in known["undone"]]),
           ([("a", "pinned", 2), ("s", "shared", None), ("big", "waiting", None)], ["waits"]))
-    agent.end()
+    check("it runs", (known["running"], agent.end()[0]), (True, 0))
+    os.remove(site.at("work/status.json"))
     refuses("numarun-agent", "status", "--agent", site.at("work/hooks"), says="no agent answers: Connection refused")
 
 
