@@ -36,7 +36,7 @@ from typing import Callable, Optional, Sequence
 from .cgroups import EACH, Groups
 from .configs import LEAST, NEAR, PIN, STAY, Pin
 from .configuration import Parser, words_in
-from .cpus import Cpus, print_list
+from .cpus import Cpus, print_list, read_list
 from .decide import answer_to_hook, at_the_end, decide, say_pool_end
 from .doing import POOL_SECONDS, Ending, Hands, PoolCommand
 from .hooks import STATUS, Hooks
@@ -44,13 +44,15 @@ from .ledger import Ledger, Settings, is_undone
 from .links import Links
 from .log import logger
 from .notify import ENDS, READY, WORKS, notify, patience_of_watchdog
+from .partition import Layout
+from .partition_files import PartitionFiles, layout_of, make
 from .pool import POOL_LEAST, is_pool_least, pool_least_of
 from .looking import Eyes
 from .machine import Machine
 from .program import PATIENCE
 from .records import KEPT, Certificates
 from .release import release
-from .script import check_program, find_program
+from .script import Refused, check_program, find_program
 from .sources import Folders, Input, Source
 from .reports import status_of
 from .status import main as say_status
@@ -112,6 +114,8 @@ class Agent:
         waiter = select.poll()
         for file in [reader, *(self.hooks.files() if self.hooks else []), *([0] if isinstance(self.eyes.source, Input) else [])]:
             waiter.register(file, select.POLLIN)
+        if self.eyes.partition:
+            self.eyes.partition.watch(waiter)
         waiter.poll(pause * 1000)
 
     def finish(self) -> None:
@@ -146,9 +150,13 @@ def words_of(told: Sequence[str]) -> argparse.Namespace:
         words = parser.parse_args([*before, *told])
         words.machine = words.machine or machine
     words.groups = [group.strip("/") or EACH for groups in words.rest for group in groups.split(",") if group]
-    for option, said in (("--rest", words.groups), ("--release", words.release)):
+    for option, said in (("--rest", words.groups), ("--release", words.release), ("--partition", words.partition)):
         if said and not words.cgroup:
             parser.error(f"{option} is of a tree: --cgroup names it")
+    if words.partition and words.groups:
+        parser.error("--rest beside --partition: the kernel keeps the other groups off, and a group beside that requests CPUs of the partition breaks it")
+    if words.system and not words.partition:
+        parser.error("--system is of a partition: --partition names its group")
     if not words.machine and not words.release and not words.version:
         parser.error("no MACHINE")
     if words.watch and not words.online:
@@ -210,6 +218,9 @@ def add_rest(parser: argparse.ArgumentParser) -> None:
     group = parser.add_argument_group("the rest of the machine")
     group.add_argument("--rest", action="append", default=[], metavar="GROUPS", help="groups of the system itself, with commas between them, as "
                        "system.slice,user.slice,init.scope: they are held on the pool, those that are there; / is each group of the root")
+    group.add_argument("--partition", metavar="GROUP", help="make this group, below the tree's root, a cpuset partition with the machine file's CPUs, "
+                       "from which the kernel keeps all other groups; the containers are below it")
+    group.add_argument("--system", default="", metavar="LIST", help="with --partition: CPUs of the machine file that are left to the system")
     group.add_argument("--pool-least", type=pool_least_text, default=POOL_LEAST, metavar="N", help="newcomers wait rather than bring the pool below so many CPUs, or "
                        "this part of them; of a part two cores are kept at least (%(default)s)")
     group.add_argument("--pool", metavar="COMMAND", help="run this with the pool's list behind it whenever that has changed")
@@ -222,9 +233,33 @@ def add_records(parser: argparse.ArgumentParser) -> None:
     group.add_argument("--keep", type=count_from(1), default=KEPT, metavar="N", help="of the certificates the last N (%(default)s)")
 
 
-def settings_of(words: argparse.Namespace, machine: Machine, root: Optional[str]) -> Settings:
+def settings_of(words: argparse.Namespace, machine: Machine, root: Optional[str], layout: Optional[Layout], system: Cpus) -> Settings:
     return Settings(machine, words.machine, root, Pin(words.pin), words.home == "free", tuple(words.groups),
-                    pool_least_of(words.pool_least, machine), words.pause, words.certificates or "", words.textfile or "", bool(words.pool), words.lift)
+                    pool_least_of(words.pool_least, machine), words.pause, words.certificates or "", words.textfile or "", bool(words.pool), layout, system,
+                    words.lift)
+
+
+def system_of(words: argparse.Namespace, machine: Machine) -> Cpus:
+    """The CPUs of the machine file that are left to the system."""
+    system = read_list(words.system, "--system")
+    if system - machine.present:
+        raise Refused(f"--system: the machine file has no CPUs {print_list(system - machine.present)}")
+    if any(machine.cores[machine.core_of[cpu]] - system for cpu in system):
+        raise Refused("--system: a core is left to the system in part")
+    if system & machine.reserved:
+        raise Refused(f"--system: CPUs {print_list(system & machine.reserved)} are reserved, so they are the containers' to wait on")
+    return system
+
+
+def partition_of(words: argparse.Namespace, machine: Machine, system: Cpus) -> Optional[Layout]:
+    """The partition of the containers, which is there by then; what it was before is kept in the agent's folder."""
+    if not words.partition:
+        return None
+    top = os.path.abspath(words.cgroup)
+    layout = layout_of(top, words.partition)
+    os.makedirs(words.work, exist_ok=True)
+    make(top, layout, machine.present - system, words.work)
+    return layout
 
 
 def memory_of(machine: Machine, groups: Optional[Groups]) -> Cpus:
@@ -236,12 +271,15 @@ def memory_of(machine: Machine, groups: Optional[Groups]) -> Cpus:
 
 def made(words: argparse.Namespace, machine: Machine, work: str, ending: Ending) -> Agent:
     """An agent over this machine, with what one before has left."""
-    links = Links(words.cgroup, work) if words.cgroup else None
-    groups = Groups(links.root) if links else None
+    system = system_of(words, machine)
+    layout = partition_of(words, machine, system)
+    links = Links(layout.path if layout else words.cgroup, work) if words.cgroup else None
+    groups = Groups(links.root, os.path.abspath(words.cgroup)) if links else None
     hooks = Hooks(os.path.join(work, "hooks")) if links else None
-    settings = settings_of(words, machine, links.root if links else None)
+    settings = settings_of(words, machine, links.root if links else None, layout, system)
     source: Source = Folders(words.watch) if words.watch else Input()
-    eyes = Eyes(settings, source, words.online, words.nodes, groups, words.group)
+    eyes = Eyes(settings, source, words.online, words.nodes, groups, f"{words.partition.strip('/')}/{words.group}" if layout else words.group,
+                partition=PartitionFiles(os.path.abspath(words.cgroup), layout) if layout else None)
     record, memory = read_record(work) if links else Record(""), memory_of(machine, groups)
     record.whole = whole_machine(machine.present, memory)
     ledger = Ledger(settings, memory, taken=record.groups, renewed=record.renewed, before=links.before if links else {})

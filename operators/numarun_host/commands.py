@@ -28,12 +28,14 @@ class Level(Enum):
 
 @dataclass(frozen=True)
 class Start:
-    """Ends the run of numarun that there is, and begins one with these CPUs reserved and offline, in which these nodes have memory."""
+    """Ends the run of numarun that there is, and begins one with these CPUs reserved and offline, in which these nodes have memory, and at whose
+    start the root is a valid partition or need not be one."""
 
     reserved: Cpus
     offline: Cpus
     shown: Cpus
     memory: Cpus
+    partition: bool = False
 
 
 @dataclass(frozen=True)

@@ -12,6 +12,7 @@ from .ledger import Kind, Ledger, State, Topic, report, say_unsaid
 from .lifting import lift_all
 from .machine import Machine
 from .newcomers import is_held_up, take_all
+from .partitioning import keep_partition
 from .plans import arrange
 from .reports import is_news, status_of
 from .script import Refused
@@ -60,6 +61,7 @@ def settle_the_rest(turn: Turn) -> Steps[None]:
         yield from arrange(turn)
     if ledger.has_tree:
         yield from lift_all(turn)
+    yield from keep_partition(turn)
 
 
 def leave(turn: Turn) -> Steps[None]:
@@ -92,7 +94,14 @@ def figures_of(ledger: Ledger) -> Dict[str, float]:
     pinned, waiting = sum(state.is_pinned for state in states), states.count(State.WAITING)
     squeezed = squeezed_of(ledger)
     return {**ledger.counts, **ledger.times, "containers_pinned": pinned, "containers_waiting": waiting, "containers_shared": len(states) - pinned - waiting,
-            "containers_squeezed": len(squeezed), "undone": len(ledger.problems)}
+            "containers_squeezed": len(squeezed), "undone": len(ledger.problems), **partition_figures(ledger)}
+
+
+def partition_figures(ledger: Ledger) -> Dict[str, float]:
+    """Whether the partition is valid, where there is to be one, and how many processes outside of it may run there."""
+    if not ledger.settings.partition:
+        return {}
+    return {"partition_valid": 0 if ledger.problem(Topic.PARTITION) else 1, "loose_processes": len(ledger.loose)}
 
 
 def squeezed_of(ledger: Ledger) -> Set[str]:
@@ -226,7 +235,8 @@ def start(turn: Turn, reserved: Cpus) -> Steps[bool]:
     ledger.pool = ledger.tried = None
     ledger.spent = ledger.unmade = False
     ledger.started = turn.unsaved = True
-    yield Start(reserved, machine.present - ledger.shown, ledger.shown, ledger.memory)
+    partition = look.partition is not None and look.partition.is_valid
+    yield Start(reserved, machine.present - ledger.shown, ledger.shown, ledger.memory, partition)
     yield from say_notes(turn)
     for event in [*off, *look.events]:
         yield from tell_event(ledger, event)

@@ -25,7 +25,7 @@ from .records import LAST_STATE, Certificates, leave_figures, leave_state
 from .script import Refused
 from .taken import Record, write_file, write_limit
 
-EFFECTIVE_NOTE = re.compile(r"\S+/cpuset\.cpus\.effective: ")  # the agent compares these itself
+EFFECTIVE_NOTE = re.compile(r"\S+/cpuset\.cpus\.(effective|partition): ")  # the agent compares these itself
 POOL_SECONDS = 30  # that --pool's command has
 FAREWELL = 10.0    # seconds that numarun has for an answer where the agent is told to end
 
@@ -135,7 +135,7 @@ class Hands:
             self.run = None
         path, more = os.path.join(self.work, "machine.json"), []
         if self.links:
-            more = ["--cgroup", self.links.folder, "--adopt"]
+            more = ["--cgroup", self.links.folder, "--adopt", *(["--partition"] if command.partition else [])]
             self.links.show(CPUS_IN_EFFECT, command.shown)
             self.links.show(NODES_IN_EFFECT, command.memory)
         machine = parse_machine(self.machine)

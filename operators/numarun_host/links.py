@@ -31,7 +31,8 @@ class Links:
         self.before: Dict[str, Tuple[Optional[str], Optional[bool]]] = {name: (self.linked(name), None) for name in os.listdir(self.links)}
         for name in self.before:
             self.unlink(name)
-        self.link_file("cgroup.controllers")
+        for name in ("cgroup.controllers", "cpuset.cpus.partition"):
+            self.link_file(name)
 
     @staticmethod
     def locked(folder: str) -> int:

@@ -9,6 +9,7 @@ from typing import Optional, Sequence
 from .cgroups import LIMIT, limit_in, read_file
 from .commands import Taken
 from .links import CPUS_IN_EFFECT, NODES_IN_EFFECT, Links
+from .partition_files import give_back as give_partition_back
 from .slices import FILES
 from .taken import Whole, read_record, write_file, write_limit
 
@@ -32,6 +33,9 @@ def release(root: str, work: str, slices: Sequence[str]) -> int:
         record.save(record.groups)
     elif os.path.exists(record.path):
         os.remove(record.path)
+    for line in give_partition_back(work):
+        print(line)
+        status = 1 if line.startswith("failed ") else status
     return status
 
 
