@@ -11,7 +11,7 @@ top=$(cd "$(dirname "$0")/.." && pwd)
 scratch=$(mktemp -d) work=$scratch
 . "$top/tests/build-preloads.sh"
 export PROGRAM=$program GROUPS_LIBRARY=$scratch/groups.so
-lanes=("looks hwloc pictures explains dry-runs rests hooks installs packages pages peers moves manual lacking" "agents edges" "changes homes" "troubles restarts"
+lanes=("looks partitions hwloc pictures explains dry-runs rests hooks installs packages pages peers moves manual lacking" "agents edges" "changes homes" "troubles restarts"
     "kills decisions")
 [ -z "${TESTS:-}" ] || lanes=("$TESTS")
 

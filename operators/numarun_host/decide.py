@@ -94,14 +94,8 @@ def figures_of(ledger: Ledger) -> Dict[str, float]:
     pinned, waiting = sum(state.is_pinned for state in states), states.count(State.WAITING)
     squeezed = squeezed_of(ledger)
     return {**ledger.counts, **ledger.times, "containers_pinned": pinned, "containers_waiting": waiting, "containers_shared": len(states) - pinned - waiting,
-            "containers_squeezed": len(squeezed), "undone": len(ledger.problems), **partition_figures(ledger)}
-
-
-def partition_figures(ledger: Ledger) -> Dict[str, float]:
-    """Whether the partition is valid, where there is to be one, and how many processes outside of it may run there."""
-    if not ledger.settings.partition:
-        return {}
-    return {"partition_valid": 0 if ledger.problem(Topic.PARTITION) else 1, "loose_processes": len(ledger.loose)}
+            "containers_squeezed": len(squeezed), "undone": len(ledger.problems),
+            "partition_valid": 0 if ledger.problem(Topic.PARTITION) else 1, "loose_processes": len(ledger.loose)}
 
 
 def squeezed_of(ledger: Ledger) -> Set[str]:

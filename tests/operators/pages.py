@@ -27,7 +27,7 @@ PACKAGE = pathlib.Path(OPERATORS) / "numarun_host"
 PAGES: Dict[str, str] = {path.name: path.read_text() for path in pathlib.Path(OPERATORS).glob("*.md")}
 PROGRAMS = ("numarun-agent", "numarun-agent status", "numarun-hook", "numarun-dry-run", "numarun-explain", "numarun-draw-plan", "numarun-describe host",
             "numarun-describe hwloc", "install.sh")
-OF_OTHERS = {"--annotation", "--env", "--of", "--disallowed", "--now", "--sort", "--cpu-quota"}  # options of other programs
+OF_OTHERS = {"--annotation", "--env", "--of", "--disallowed", "--now", "--sort", "--cpu-quota", "--cgroup-parent"}  # options of other programs
 OF_THE_SYSTEM = {"No such file or directory", "No space left on device"}
 OPTION = re.compile(r"(?<![\w-])--[a-z][a-z-]+")
 
