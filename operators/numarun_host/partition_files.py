@@ -3,6 +3,7 @@ folder before the first write, so that an agent that is killed leaves nothing th
 
 from __future__ import annotations
 
+import errno
 import json
 import os
 import select
@@ -19,6 +20,7 @@ from .taken import inode_of, write_file
 RECORD_BYTES = 1 << 20
 CONTROLS = "cgroup.subtree_control"
 LOOSE_PAUSE = 60.0  # seconds between two looks through the root group
+STAYS = (errno.ENOENT, errno.ENOTEMPTY, errno.EBUSY)  # a group that is gone, or that somebody is in
 KERNEL_THREAD = 0x00200000  # PF_KTHREAD, of proc(5)'s flags
 
 
@@ -204,7 +206,7 @@ def read_before(work: str) -> Optional[Before]:
 
 
 def undo(before: Before, work: str) -> List[str]:
-    """Makes the group a member, gives its files back what they had, and removes what was made, as far as nobody is in it; what was refused."""
+    """Makes the group a member, gives its files back what they had, and removes what was made, where nobody is in it; what was refused."""
     faults: List[Optional[str]] = []
     if os.path.exists(f"{before.path}/{FILE}"):
         faults.append(write_file(f"{before.path}/{FILE}", MEMBER))
@@ -214,10 +216,8 @@ def undo(before: Before, work: str) -> List[str]:
     for group in reversed(before.made):
         try:
             os.rmdir(group)
-        except FileNotFoundError:
-            pass
         except OSError as error:
-            faults.append(f"{group}: {error.strerror}")
+            faults.append(None if error.errno in STAYS else f"{group}: {error.strerror}")
     if os.path.exists(place_of(work)):
         os.remove(place_of(work))
     return [fault for fault in faults if fault]

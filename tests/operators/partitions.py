@@ -303,7 +303,7 @@ def made() -> None:
                        tree.has("a.slice/b/cpuset.cpus")), (ROOT, "1-31", "1-31", "1-31"))
     tree.group("a.slice/other", "5")
     check("given back, but for who is in use", (tree.give_back(), tree.left()),
-          (["failed ROOT/a.slice: Directory not empty", "given back ROOT/a.slice/b: removed"], {"a.slice  member", "a.slice/other 5 member"}))
+          (["given back ROOT/a.slice/b: removed"], {"a.slice  member", "a.slice/other 5 member"}))
     tree = Tree()
     tree.group("pinned", "4-9")
     check("one that was there", (tree.make("pinned", "1-31"), tree.give_back(), tree.left()),
