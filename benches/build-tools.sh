@@ -1,5 +1,9 @@
-# Builds the program `tools` and names it, or names the one that TOOLS in the environment says.
+# Names the program `tools` that TOOLS in the environment says, or builds it first, which proves it, where BUILD says so.
 tools=${TOOLS:-}
+if [ -z "$tools" ] && [ -z "${BUILD:-}" ]; then
+    echo "$0: no program: TOOLS names one, and BUILD=1 lets this prove and build it first, which takes up to an hour" >&2
+    exit 2
+fi
 if [ -z "$tools" ]; then
     tools_crate=$(cd "$(dirname "${BASH_SOURCE[0]}")/../crates/tools" && pwd)
     (cd "$tools_crate" && rt run -- lists 3 >/dev/null) || exit 1

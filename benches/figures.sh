@@ -12,6 +12,7 @@ for part in "${@:-counts}"; do
         *) sed -n '2,/^set/{/^set/d;s/^# \{0,1\}//;p}' "$0" >&2; exit 2 ;;
     esac
 done
+BUILD=1  # what is not named is proved and built first
 . "$top/tests/build-program.sh"
 . "$here/build-tools.sh"
 export PROGRAM=$program TOOLS=$tools

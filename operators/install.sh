@@ -4,7 +4,7 @@
 #        operators/install.sh --deb FOLDER
 #
 # PREFIX/bin has numarun and the scripts: numarun-agent, numarun-draw-plan, numarun-dry-run, numarun-explain,
-# numarun-hook, numarun-describe. PREFIX/lib/systemd/system has a unit for the agent, which is not
+# numarun-hook, numarun-runc, numarun-describe. PREFIX/lib/systemd/system has a unit for the agent, which is not
 # enabled. PREFIX/share/man has the man pages; PREFIX/share/doc/numarun has the pages of operators/, docs/formats.md and, in examples/,
 # the bundles, machine files, scripts, certificates and problems, below the names that they have here. The program is the one that PROGRAM in the
 # environment names, or the proved one of this checkout, from bash build.sh.
@@ -12,15 +12,15 @@
 # time installed, and this time does not, is taken away. PREFIX/lib/numarun/installed is the list of all that was installed,
 # with the folders that were made for it, which are taken away again where nothing else is in them.
 #
-# --deb makes FOLDER/numarun_VERSION_ARCHITECTURE.deb by dpkg-deb, with the same below /usr, and the folder /etc/numarun. It is
-# installed by dpkg -i and taken away by dpkg -r. DEBFULLNAME and DEBEMAIL name who made it.
+# --deb makes FOLDER/numarun_VERSION_ARCHITECTURE.deb by debhelper, from what debian/ says, with the same files below /usr, and the folder
+# /etc/numarun. It is installed by dpkg -i and taken away by dpkg -r. Its version is that of CHANGELOG.md.
 #
 # Example: operators/install.sh /usr/local
 #          operators/install.sh --deb . && dpkg -i numarun_*.deb
 set -euo pipefail
 export LC_ALL=C
 top=$(cd "$(dirname "$(realpath "$0")")/.." && pwd)
-scripts=(agent draw-plan dry-run explain hook describe)
+scripts=(agent draw-plan dry-run explain hook runc describe)
 
 say() { echo "install.sh: $1" >&2; }
 fail() { say "$1"; exit 1; }
@@ -86,8 +86,8 @@ put_all() {
     done
     put 644 "$top/operators/numarun-agent.service" "$unit"
     put 644 "$top/docs/numarun.1" share/man/man1/numarun.1
-    for name in numarun-agent.8 numarun-hook.8; do
-        put 644 "$top/operators/$name" "share/man/man8/$name"
+    for name in "$top"/operators/numarun-*.[18]; do
+        put 644 "$name" "share/man/man${name##*.}/$(basename "$name")"
     done
     for name in "$top"/operators/*.md; do
         put 644 "$name" "share/doc/numarun/operators/$(basename "$name")"
@@ -97,7 +97,7 @@ put_all() {
     done
     while read -r name; do
         put 644 "$top/$name" "share/doc/numarun/$name"
-    done < <(cd "$top" && find examples/bundles examples/machines examples/scripts examples/*.certificate examples/*.problem -type f | sort)
+    done < <(cd "$top" && find examples/bundles examples/dashboards examples/machines examples/scripts examples/*.certificate examples/*.problem -type f | sort)
 }
 
 # Names the agent in the unit by its whole path, as systemd wants it where PREFIX is a folder of one's own.
@@ -109,38 +109,21 @@ name_agent() {
     mv -f "$prefix/$unit.new" "$prefix/$unit"
 }
 
-# Makes the package of what stands below $stage/usr.
+# Makes the package by debhelper, in a copy of what it is made of.
 pack() {
-    local version architecture size document=$stage/usr/share/doc/numarun
-    version=$("$program" --version | awk 'NR == 1 {print $NF}')
-    [[ $version =~ ^[0-9][0-9a-z.+~]*$ ]] || fail "$program --version: no version of a package"
-    architecture=$(dpkg --print-architecture)
-    mkdir -p "$stage/DEBIAN" "$stage/etc/numarun"
-    gzip -9n "$stage"/usr/share/man/man?/numarun*
-    printf 'numarun (%s) unstable; urgency=low\n\n  * The program, its scripts and its pages.\n\n -- %s  %s\n' "$version" "$maintainer" \
-        "$(date -u -R -d "@${SOURCE_DATE_EPOCH:-$(stat -c %Y "$program")}")" | gzip -9n > "$document/changelog.gz"
-    printf 'Format: https://www.debian.org/doc/packaging-manuals/copyright-format/1.0/\n\nFiles: *\nCopyright: %s\nLicense: see the sources\n' \
-        "$maintainer" > "$document/copyright"
-    size=$(du -k -s "$stage/usr" | cut -f 1)
-    cat > "$stage/DEBIAN/control" <<CONTROL
-Package: numarun
-Version: $version
-Architecture: $architecture
-Maintainer: $maintainer
-Installed-Size: $size
-Depends: python3 (>= 3.9), libc6
-Section: admin
-Priority: optional
-Description: exclusive CPUs for containers on NUMA hosts
- A plan for all live containers is optimal, of the least total distance to
- their memory and, among those, by the fewest CPUs that change hands. It
- comes with a certificate that a small checker accepts or refuses. An agent
- keeps the control groups of crun's and podman's containers by such plans.
-CONTROL
-    (cd "$stage" && find usr -type f -print0 | sort -z | xargs -0 md5sum > DEBIAN/md5sums)
-    chmod -R u+w,go-w "$stage"
-    dpkg-deb --root-owner-group --build "$stage" "$1/numarun_${version}_$architecture.deb" > /dev/null || fail "$1: no package can be made there"
-    echo "$1/numarun_${version}_$architecture.deb is made; dpkg -i installs it"
+    local source=$stage/numarun name
+    mkdir -p "$source"
+    cp -r "$top/debian" "$top/operators" "$top/docs" "$top/examples" "$top/CHANGELOG.md" "$source"
+    find "$source" -name __pycache__ -prune -exec rm -rf {} +
+    chmod -R u+w,go-w,a+rX "$source"
+    export SOURCE_DATE_EPOCH=${SOURCE_DATE_EPOCH:-$(stat -c %Y "$program")} PROGRAM=$program DH_VERBOSE=
+    python3 -B "$source/debian/changelog_of.py" > "$stage/changelog" || fail "CHANGELOG.md: no changelog can be made of it"
+    mv "$stage/changelog" "$source/debian/changelog"
+    (cd "$source" && dpkg-buildpackage -b -us -uc > "$stage/log" 2>&1) || { tail -n 20 "$stage/log" >&2; fail "dpkg-buildpackage: no package is made"; }
+    for name in "$stage"/*.deb; do
+        cp "$name" "$1" || fail "$1: no package can be made there"
+        echo "$1/$(basename "$name") is made; dpkg -i installs it"
+    done
 }
 
 if [ -n "$uninstall" ]; then
@@ -155,18 +138,15 @@ program=${PROGRAM:-$top/crates/numarun/out/numarun}
 [ -f "$program" ] && [ -x "$program" ] ||
     fail "$program: no program: build it by bash build.sh, or name it in PROGRAM"
 if [ -n "$deb" ]; then
-    command -v dpkg-deb > /dev/null || fail "dpkg-deb: not there"
-    folder=$prefix maintainer=${DEBFULLNAME:-numarun} maintainer="$maintainer <${DEBEMAIL:-numarun@localhost}>"
-    [ -d "$folder" ] || fail "$folder: no folder"
+    [ -d "$prefix" ] || fail "$prefix: no folder"
+    for tool in dpkg-buildpackage dh dh_python3; do
+        command -v "$tool" > /dev/null || fail "$tool: not there: apt-get install dpkg-dev debhelper dh-python"
+    done
+    program=$(realpath "$program")
     stage=$(mktemp -d)
     trap 'rm -rf "$stage"' EXIT
-    chmod 755 "$stage"
     umask 022
-    prefix=$stage/usr made=
-    mkdir "$prefix"
-    put_all
-    name_agent /usr/bin/numarun-agent
-    pack "$folder"
+    pack "$prefix"
     exit 0
 fi
 before=

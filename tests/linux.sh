@@ -1,7 +1,7 @@
 #!/usr/bin/env bash
 # Runs the built programs on a real kernel: Debian's, in a machine that qemu emulates (8 CPUs on 4 nodes), over its own cgroup v2
-# tree. What it needs it installs where it may: qemu-system-x86, cpio, crun, a C compiler, and the kernel's package, which is only
-# unpacked. Where it can't, it says so and is passed over. PROGRAM and TOOLS in the environment are run in place of those that this
+# tree. What it needs it installs where it may: qemu-system-x86, cpio, crun, a C compiler. The kernel's package, containerd's and docker's
+# are only unpacked. Where it can't, it says so and is passed over. PROGRAM and TOOLS in the environment are run in place of those that this
 # builds. PARTS are the parts of linux/parts/ that are run, behind a slash which share of their work is done: `killed/4` is every
 # fourth call. MACHINES of them run side by side, SEED chooses what is random, KERNEL is an image in place of Debian's, LIMIT the
 # seconds that a machine has, and KEEP a folder for all that the machines print.
@@ -17,15 +17,32 @@ pass_over() {
     exit 0
 }
 
-inside=crun desk=
-case " ${parts[*]} " in *" podman "* | *" walk "*) inside+=" podman conmon" ;; esac
-case " ${parts[*]} " in *" walk "*) desk=--desk ;; esac
-needed="qemu-system-x86 cpio gcc libc6-dev $inside"
+# has PART..: whether one of these is run.
+has() {
+    local part
+    for part; do
+        case " ${parts[*]} " in *" $part "*) return ;; esac
+    done
+    return 1
+}
+
+inside=crun desk='' packages='' daemons='' libraries='' megabytes=320
+! has podman walk || inside+=" podman conmon"
+! has runc containerd docker || inside+=" runc"
+! has walk || desk=--desk
+if has containerd docker; then
+    packages=containerd daemons="usr/bin/containerd usr/bin/ctr usr/bin/containerd-shim-runc-v2" megabytes=512
+fi
+if has docker; then
+    packages+=" docker.io" daemons+=" usr/sbin/dockerd usr/bin/docker" libraries=libdevmapper1.02.1
+fi
+needed="qemu-system-x86 cpio gcc libc6-dev $inside $libraries"
 has_all() {
     local one
     for one in qemu-system-x86_64 cpio gcc $inside; do
         command -v "$one" >/dev/null || return
     done
+    [ -z "$libraries" ] || ldconfig -p | grep -q libdevmapper
 }
 
 if ! has_all; then
@@ -33,21 +50,30 @@ if ! has_all; then
     { apt-get -qq update && apt-get -qq install -y --no-install-recommends $needed; } >/dev/null 2>&1 || true
     has_all || pass_over "there is no $needed, and they can't be installed"
 fi
+# unpack PACKAGE: downloads a package and unpacks it below $work/unpacked.
+unpack() {
+    echo "linux: downloading $1, to be unpacked" >&2
+    (cd "$work" && apt-get -qq download "$1" && dpkg -x "$1"_*.deb unpacked) >/dev/null 2>&1 || pass_over "$1 can't be had"
+}
+
 kernel=${KERNEL:-}
 if [ -z "$kernel" ]; then
     package=$({ apt-cache depends linux-image-cloud-amd64 2>/dev/null || true; } | awk '/Depends: linux-image/ {print $2; exit}')
     [ -n "$package" ] || pass_over "apt-cache knows no linux-image-cloud-amd64"
-    echo "linux: downloading $package, to be unpacked" >&2
-    (cd "$work" && apt-get -qq download "$package" && dpkg -x "$package"_*.deb unpacked) >/dev/null 2>&1 || pass_over "$package can't be had"
+    unpack "$package"
     kernel=$(echo "$work"/unpacked/boot/vmlinuz-*)
 fi
+for package in $packages; do
+    unpack "$package"
+done
+daemons=$(printf "$work/unpacked/%s " $daemons)
 . "$top/tests/build-program.sh"
 
 root=$work/root
 gcc -O2 -shared -fPIC -o "$work/stop.so" "$top/tests/linux/stop.c"
 gcc -O2 -static -o "$work/sleeper" "$top/tests/linux/sleeper.c"
 # shellcheck disable=SC2046,SC2086 # they are words
-python3 -B "$top/tests/linux/image.py" "$root" $desk "$program" "$work/stop.so" "$work/sleeper" $(command -v $inside)
+python3 -B "$top/tests/linux/image.py" "$root" $desk "$program" "$work/stop.so" "$work/sleeper" $(command -v $inside) ${packages:+$daemons}
 for part in "${parts[@]}"; do
     if [ "${part%%/*}" = calls ]; then
         . "$top/benches/build-tools.sh"
@@ -58,7 +84,7 @@ done
 (cd "$root" && find . | cpio -o -H newc --quiet | gzip -1) >"$work/initrd.gz"
 nodes=()
 for node in 0 1 2 3; do
-    nodes+=(-object "memory-backend-ram,id=m$node,size=320M" -numa "node,nodeid=$node,memdev=m$node,cpus=$((2 * node))-$((2 * node + 1))")
+    nodes+=(-object "memory-backend-ram,id=m$node,size=${megabytes}M" -numa "node,nodeid=$node,memdev=m$node,cpus=$((2 * node))-$((2 * node + 1))")
 done
 for row in 0,1,20 0,2,20 0,3,30 1,2,30 1,3,20 2,3,20; do
     IFS=, read -r from to distance <<<"$row"
@@ -73,7 +99,7 @@ emulate() {
     mkdir "$work/$number"
     echo "$seed $*" >"$work/$number/parts"
     { cat "$work/initrd.gz"; cd "$work/$number" && echo parts | cpio -o -H newc --quiet | gzip -1; } >"$work/initrd-$number.gz"
-    timeout "${LIMIT:-900}" qemu-system-x86_64 -M q35 -cpu max -accel tcg,thread=multi -m 1280 -smp 8,sockets=4,cores=2,threads=1 \
+    timeout "${LIMIT:-900}" qemu-system-x86_64 -M q35 -cpu max -accel tcg,thread=multi -m $((4 * megabytes)) -smp 8,sockets=4,cores=2,threads=1 \
         "${nodes[@]}" -nodefaults -display none -serial stdio -no-reboot -kernel "$kernel" -initrd "$work/initrd-$number.gz" \
         -append "console=ttyS0 quiet panic=-1 loglevel=1 mitigations=off no_timer_check rdinit=/init" </dev/null 2>&1 |
         sed -u 's/\r$//' | tee "$work/out-$number" | grep -a --line-buffered '^linux: ' || true

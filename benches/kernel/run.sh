@@ -2,6 +2,7 @@
 # Times the modelled kernel, beside the plain recursion, and hand-overs over it.
 set -eu
 here=$(cd "$(dirname "$0")" && pwd)
+BUILD=1  # what is not named is proved and built first
 . "$here/../build-tools.sh"
 
 timed '100,000 writes of a leaf of 1,024' "$tools" leaf-writes 100000

@@ -7,5 +7,6 @@ top=$(cd "$here/../.." && pwd)
 case ${1:-} in
     -h | --help) exec python3 -B "$here/compare.py" --help ;;
 esac
+BUILD=1  # what is not named is proved and built first
 . "$top/tests/build-program.sh"
 exec python3 -B "$here/compare.py" "$program" "$@"

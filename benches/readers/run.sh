@@ -2,6 +2,7 @@
 # Times the readers of machine files, lists and configs, beside common tools.
 set -eu
 here=$(cd "$(dirname "$0")" && pwd)
+BUILD=1  # what is not named is proved and built first
 . "$here/../build-tools.sh"
 work=$(mktemp -d)
 trap 'rm -rf "$work"' EXIT

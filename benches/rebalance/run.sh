@@ -7,6 +7,7 @@
 set -eu
 here=$(cd "$(dirname "$0")" && pwd)
 top=$(cd "$here/../.." && pwd)
+BUILD=1  # what is not named is proved and built first
 . "$top/tests/build-program.sh"
 . "$here/../build-tools.sh"
 python3 -B "$here/measure.py" "$program" "$tools" "$@"

@@ -7,6 +7,7 @@ top=$(cd "$here/../.." && pwd)
 work=$(mktemp -d)
 trap 'rm -rf "$work"' EXIT
 
+BUILD=1  # what is not named is proved and built first
 . "$top/tests/build-program.sh"
 
 exec 2>&1

@@ -3,6 +3,7 @@
 # (Debian: liblemon-dev, g++) where that is there.
 set -eu
 here=$(cd "$(dirname "$0")" && pwd)
+BUILD=1  # what is not named is proved and built first
 . "$here/../build-tools.sh"
 
 folder=$(mktemp -d)

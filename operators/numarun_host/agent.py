@@ -5,8 +5,8 @@ input, a line each:
   ended ID                   it is gone
   offline CPU, online CPU    a CPU went or came
   rebalance                  work the plan out anew
-or, with --watch, from a folder of bundles, each by its id, or the state folder of a runtime as /run/crun; and from the
-kernel's list of online CPUs. Where a container's group is, the runtime's state says, or its config by `linux.cgroupsPath`,
+or, with --runtime or --watch, from the folders in which runtimes keep their state, or folders of bundles, each by its id; and from
+the kernel's list of online CPUs. Where a container's group is, the runtime's state says, or its config by `linux.cgroupsPath`,
 or else it is ROOT/numarun/ID.
 
 All events that are there are told before one plan is worked out. What runs already is adopted with the CPUs that its group
@@ -14,8 +14,8 @@ requests. A container whose group is not there is told once it is; what was refu
 a write that failed is made again, at growing pauses. A config or a limit that changes is told as it is. Who has no place runs on
 the pool until there is room. SIGTERM ends it between two commands, and what is left is taken up by the next one; --release gives
 back what was taken. Before all other words may stand `status`, which says what the running agent knows (see `status --help`), `release`
-in place of --release, or `check-config`, which says whether an agent with the other words would begin. `@FILE` stands for the words
-in a file.
+in place of --release, `check-config`, which says whether an agent with the other words would begin, or `add-service`, which describes
+a service of systemd's as a container (see `add-service --help`). `@FILE` stands for the words in a file.
 
 The status is 1 where something is left undone: a line that is no event, a refusal, a shortage, a failed write. Where it is told to
 end by a signal, a container that has no room is nothing of that."""
@@ -52,9 +52,11 @@ from .machine import Machine
 from .program import PATIENCE
 from .records import KEPT, Certificates
 from .release import release
-from .script import Refused, check_program, find_program
-from .sources import Folders, Input, Source
 from .reports import status_of
+from .runtimes import ALL, NAMES, Watch, runtimes_named, watches_of
+from .script import Refused, check_program, find_program
+from .services import main as add_service
+from .sources import ROOT, Folders, Input, Source
 from .status import main as say_status
 from .taken import Record, read_record, whole_machine
 
@@ -66,23 +68,23 @@ EXAMPLE = f"""what a container says of itself, by an annotation, or a variable o
 
 examples, from the top of the repository:
   echo "created database examples/bundles/database" | operators/numarun-agent examples/machines/two-socket.json
-  operators/numarun-agent host.json --cgroup /sys/fs/cgroup --watch /run/crun
-  operators/numarun-agent --release --cgroup /sys/fs/cgroup"""
+  operators/numarun-agent host.json --cgroup /sys/fs/cgroup --runtime all
+  operators/numarun-agent release --cgroup /sys/fs/cgroup"""
 LEAST_PAUSE, MOST_PAUSE = 0.01, 86400
-SUBCOMMANDS = ("status", "release", "check-config")
+SUBCOMMANDS = ("status", "release", "check-config", "add-service")
 
 
 class Agent:
     """What looks, what decides by it, and what does it, in turn."""
 
-    def __init__(self, eyes: Eyes, hands: Hands, ledger: Ledger, hooks: Optional[Hooks], ending: Ending) -> None:
-        self.eyes, self.hands, self.ledger, self.hooks, self.ending = eyes, hands, ledger, hooks, ending
+    def __init__(self, eyes: Eyes, hands: Hands, ledger: Ledger, hooks: Optional[Hooks], ending: Ending, clock: Callable[[], float]) -> None:
+        self.eyes, self.hands, self.ledger, self.hooks, self.ending, self.clock = eyes, hands, ledger, hooks, ending, clock
 
     def turn(self) -> None:
         """A look, and what comes of it."""
         if self.hooks:
             self.hooks.take()
-        look = self.eyes.look(self.ledger, time.monotonic())
+        look = self.eyes.look(self.ledger, self.clock())
         command, fault = self.hands.pool.take()
         look = dataclasses.replace(look, pool_command=command, pool_fault=fault)
         self.ledger = self.hands.carry_out(decide(self.ledger, look))
@@ -159,7 +161,8 @@ def words_of(told: Sequence[str]) -> argparse.Namespace:
         parser.error("--system is of a partition: --partition names its group")
     if not words.machine and not words.release and not words.version:
         parser.error("no MACHINE")
-    if words.watch and not words.online:
+    words.watches = watches_of(words.runtime, words.watch)
+    if words.watches and not words.online:
         words.online = "/sys/devices/system/cpu/online"
     return words
 
@@ -177,6 +180,14 @@ def count_from(least: int) -> Callable[[str], int]:
             raise argparse.ArgumentTypeError(f"{text} is below {least}")
         return int(text)
     return count
+
+
+def runtimes_text(text: str) -> str:
+    try:
+        runtimes_named([text])
+    except Refused as why:
+        raise argparse.ArgumentTypeError(str(why)) from None
+    return text
 
 
 def pool_least_text(text: str) -> str:
@@ -201,7 +212,10 @@ def add_program(parser: argparse.ArgumentParser) -> None:
 
 def add_containers(parser: argparse.ArgumentParser) -> None:
     group = parser.add_argument_group("containers")
-    group.add_argument("--watch", metavar="FOLDER", action="append", help="the containers are those of this folder, and of others that are named so")
+    group.add_argument("--runtime", type=runtimes_text, metavar="NAMES", action="append", default=[], help="the containers are those of these runtimes, "
+                       f"with commas between them: {', '.join(NAMES)}, or {ALL}. The folders in which they keep their state are watched, those that are there")
+    group.add_argument("--watch", metavar="FOLDER", action="append", default=[], help="the containers are those of this folder, and of others that "
+                       "are named so")
     group.add_argument("--group", default="numarun", metavar="NAME", help="the group that has the groups of which nothing else is said (%(default)s)")
     group.add_argument("--online", metavar="FILE", help="the kernel's list of online CPUs; with --watch it is looked at anyway")
     group.add_argument("--pin", choices=[rule.value for rule in Pin], default=Pin.WHOLE.value, help="who gets CPUs of its own: all that ask for "
@@ -269,7 +283,7 @@ def memory_of(machine: Machine, groups: Optional[Groups]) -> Cpus:
     return nodes if effective is None else nodes & effective or nodes
 
 
-def made(words: argparse.Namespace, machine: Machine, work: str, ending: Ending) -> Agent:
+def made(words: argparse.Namespace, machine: Machine, work: str, ending: Ending, clock: Callable[[], float] = time.monotonic) -> Agent:
     """An agent over this machine, with what one before has left."""
     system = system_of(words, machine)
     layout = partition_of(words, machine, system)
@@ -277,15 +291,17 @@ def made(words: argparse.Namespace, machine: Machine, work: str, ending: Ending)
     groups = Groups(links.root, os.path.abspath(words.cgroup)) if links else None
     hooks = Hooks(os.path.join(work, "hooks")) if links else None
     settings = settings_of(words, machine, links.root if links else None, layout, system)
-    source: Source = Folders(words.watch) if words.watch else Input()
+    watches: Sequence[Watch] = words.watches
+    top = os.path.abspath(words.cgroup) if links else ROOT
+    source: Source = Folders(watches, top) if watches else Input()
     eyes = Eyes(settings, source, words.online, words.nodes, groups, f"{words.partition.strip('/')}/{words.group}" if layout else words.group,
-                partition=PartitionFiles(os.path.abspath(words.cgroup), layout) if layout else None)
+                partition=PartitionFiles(top, layout) if layout else None)
     record, memory = read_record(work) if links else Record(""), memory_of(machine, groups)
     record.whole = whole_machine(machine.present, memory)
     ledger = Ledger(settings, memory, taken=record.groups, renewed=record.renewed, before=links.before if links else {})
     hands = Hands(words.program, words.machine, words.slit, work, links, record, Certificates(words.certificates or "", words.keep),
                   words.textfile or "", PoolCommand(words.pool or ""), logger(), ending, words.patience)
-    return Agent(eyes, hands, ledger, hooks, ending)
+    return Agent(eyes, hands, ledger, hooks, ending, clock)
 
 
 def check_config(words: argparse.Namespace) -> int:
@@ -301,6 +317,8 @@ def main() -> int:
     subcommand, told = (sys.argv[1], sys.argv[2:]) if sys.argv[1:2] and sys.argv[1] in SUBCOMMANDS else ("", sys.argv[1:])
     if subcommand == "status":
         return say_status(told)
+    if subcommand == "add-service":
+        return add_service(told)
     words = words_of([*told, "--release"] if subcommand == "release" else told)
     if words.version:
         check_program(words.program)

@@ -16,21 +16,38 @@ FILE_BYTES = 1 << 16
 LIMIT = "cpu.max"
 EACH = "/"
 READ = ("cpuset.cpus", "cpuset.mems", "cpuset.cpus.effective", LIMIT, "cgroup.events")
-Texts = Tuple[Optional[str], ...]
+PIECE = 4096  # what most files of a group fit into
+Raw = Tuple[Optional[bytes], ...]
+
+
+def read_raw(path: str) -> Optional[bytes]:
+    """The bytes of a file of a group, or nothing."""
+    try:
+        file = os.open(path, os.O_RDONLY | os.O_CLOEXEC | os.O_NONBLOCK)
+    except (OSError, ValueError):
+        return None
+    try:
+        found = piece = os.read(file, PIECE)
+        while len(piece) == PIECE and len(found) < FILE_BYTES:
+            piece = os.read(file, PIECE)
+            found += piece
+        return found
+    except OSError:
+        return None
+    finally:
+        os.close(file)
+
+
+def text_in(found: Optional[bytes]) -> Optional[str]:
+    try:
+        return None if found is None else found.decode().strip()
+    except ValueError:
+        return None
 
 
 def read_file(path: str) -> Optional[str]:
     """A file of a group, or nothing."""
-    try:
-        file = os.open(path, os.O_RDONLY | os.O_CLOEXEC)
-    except (OSError, ValueError):
-        return None
-    try:
-        return os.read(file, FILE_BYTES).decode().strip()
-    except (OSError, ValueError):
-        return None
-    finally:
-        os.close(file)
+    return text_in(read_raw(path))
 
 
 def set_in(text: Optional[str]) -> Optional[Cpus]:
@@ -62,7 +79,7 @@ class Groups:
 
     def __init__(self, root: str, top: Optional[str] = None) -> None:
         self.root, self.top = root, top or root  # where the containers are, and from where runtimes tell paths
-        self.last: Dict[str, Tuple[int, Texts, Group]] = {}
+        self.last: Dict[str, Tuple[int, Raw, Group]] = {}
         self.looked_at: Set[str] = set()
 
     def look_at(self, path: str) -> Union[Group, NoGroup]:
@@ -71,15 +88,16 @@ class Groups:
             inode = os.stat(path).st_ino
         except (OSError, ValueError):
             return NoGroup(f"{path}: no such group")
-        texts: Texts = tuple(read_file(f"{path}/{file}") for file in READ)
+        raw: Raw = tuple([read_raw(f"{path}/{file}") for file in READ])
+        before = self.last.get(path)
+        if before and before[0] == inode and before[1] == raw:
+            return before[2]
+        texts = tuple(map(text_in, raw))
         if texts[0] is None and not os.path.lexists(f"{path}/{READ[0]}"):
             return NoGroup(f"{path}: no cpuset.cpus in it", folder=True)
-        before = self.last.get(path)
-        if before and before[:2] == (inode, texts):
-            return before[2]
         cpus, nodes, effective = (set_in(text) for text in texts[:3])
         group = Group(path, inode, cpus or NO_CPUS, nodes, effective, limit_in(texts[3]), populated_in(texts[4]), (texts[0], texts[1]))
-        self.last[path] = inode, texts, group
+        self.last[path] = inode, raw, group
         return group
 
     def end_look(self) -> None:
@@ -110,11 +128,11 @@ class Groups:
         tops = tuple(f"{self.root}/{name}" for name in slices)
         found: Set[str] = set()
         for path in paths:
-            above = os.path.dirname(path)
+            above = path.rpartition("/")[0]
             while above.startswith(tops) and above not in found:
                 if any(above == top or above.startswith(f"{top}/") for top in tops):
                     found.add(above)
-                above = os.path.dirname(above)
+                above = above.rpartition("/")[0]
         return found
 
 
@@ -140,9 +158,8 @@ def state_of_runtime(folder: str) -> Optional[Config]:
     return None
 
 
-def stated_group(folder: str) -> Optional[str]:
+def group_in(state: Optional[Config]) -> Optional[str]:
     """The group that a runtime's state names."""
-    state = state_of_runtime(folder)
     for names in (("cgroup-path",), ("cgroup_paths", "")):
         found = at(state, *names)
         if isinstance(found, str) and found:
@@ -156,11 +173,14 @@ def group_path(root: str, parent: str, name: str, config: Config, folder: Option
     found: object = told
     if found is None:
         path = at(config, "linux", "cgroupsPath")
-        found = (stated_group(folder) if folder is not None else None) or (scope_of(path) if isinstance(path, str) and path.count(":") == 2 else path)
-    text = found if isinstance(found, str) and found else f"{parent}/{name}"
-    if text.startswith(f"{root}/"):
-        text = text[len(root):]
-    return os.path.normpath(root + os.path.normpath(f"/{text}"))
+        found = (group_in(state_of_runtime(folder)) if folder is not None else None) or (scope_of(path) if isinstance(path, str) and path.count(":") == 2 else path)
+    return root + below_root(root, found if isinstance(found, str) and found else f"{parent}/{name}").rstrip("/")
+
+
+def below_root(root: str, path: str) -> str:
+    """A group's path as it is below the root of the tree, which may stand before it."""
+    text = path[len(root):] if path.startswith(f"{root}/") else path
+    return os.path.normpath(f"/{text}").replace("//", "/")
 
 
 def has_ended(folder: str) -> bool:

@@ -5,14 +5,15 @@ from __future__ import annotations
 import dataclasses
 from typing import List, Optional
 
-from .commands import Ask, Drop, Link, SaveTaken, Say, Steps, Taken, Tell, Unlink, Verb, Write
+from .commands import Ask, Drop, Level, Link, SaveTaken, Say, Steps, Taken, Tell, Unlink, Verb, Write
 from .configs import Demand, shared
 from .cpus import NO_CPUS, Cpus, print_list
-from .ledger import Container, Kind, Ledger, Sighting, State, Topic, report
+from .ledger import Container, Kind, Ledger, Problem, Sighting, State, Topic, report
 from .lifting import give_back_at_the_end
-from .newcomers import refuse
+from .newcomers import refuse, requested_by_untold
 from .placing import demand_of
 from .script import Refused
+from .seen import Group
 from .sightings import are_known, is_same, lives, written
 from .slices import is_below
 from .telling import Turn, ask, tell_update
@@ -63,6 +64,8 @@ def follow_all(turn: Turn) -> Steps[bool]:
 def follow(turn: Turn, name: str, sighting: Sighting) -> Steps[bool]:
     ledger = turn.ledger
     before = ledger.containers[name].seen
+    if before is sighting:
+        return False
     if before.asks == sighting.asks or sighting.told.is_system:
         if before.group is not sighting.group:
             ledger.change(name, seen=sighting)
@@ -70,11 +73,15 @@ def follow(turn: Turn, name: str, sighting: Sighting) -> Steps[bool]:
     if not ledger.is_over("update", "", turn.now):
         return False
     container = ledger.change(name, seen=sighting)
-    demand = demand_of(turn, sighting, container.home)
+    demand = demand_of(turn, sighting, container.home if sighting.listed == before.listed else None)
     if demand.config == (container.wanted or container.demand).config:
         return False
     if demand.count is None or container.given.count is None:
         return (yield from follow_shared(turn, container, demand))
+    if demand == container.given:
+        ledger.change(name, demand=demand, wanted=None)
+        ledger.settle(Topic.CONTAINER, name, Kind.FEWER, Kind.KEEPS)
+        return False
     ledger.change(name, wanted=demand)
     return True
 
@@ -99,18 +106,51 @@ def follow_shared(turn: Turn, container: Container, demand: Demand) -> Steps[boo
 
 
 def mend_all(turn: Turn) -> Steps[None]:
-    """Looks whether each group requests what it was given, and has that in effect."""
+    """Looks whether each group requests what it was given, and has that in effect. Of those that do not, each gives back first what is another
+    one's."""
     ledger = turn.ledger
-    for name, container in list(ledger.containers.items()) if ledger.has_tree else []:
-        sighting = turn.there[name]
-        if container.cpus is None:
-            continue
-        if sighting.group.cpus != container.cpus or nodes_drifted(ledger, container, sighting):
-            yield from mend(turn, container, sighting)
-        else:
-            ledger.settle(Topic.DRIFT, name)
-        if name in ledger.containers:
-            yield from compare_effective(turn, container, sighting)
+    told = [container for container in ledger.containers.values() if container.cpus is not None] if ledger.has_tree else []
+    drifted = [container for container in told if has_drifted(turn, container)]
+    turn.strays = {container.name: turn.there[container.name].group.cpus for container in drifted if cpus_drifted(turn, container)}
+    for container in drifted:
+        if any(is_in_the_way(turn, container.name, other) for other in drifted):
+            yield from give_back_first(turn, container)
+    for container in drifted:
+        yield from mend(turn, container, turn.there[container.name])
+    for container in told:
+        if container not in drifted:
+            yield from say_mended(turn, container)
+            yield from compare_effective(turn, container, turn.there[container.name])
+
+
+def is_still_there(turn: Turn, container: Container) -> bool:
+    """Whether its group is the same, and it is not in the midst of its own end or restart."""
+    group = turn.there[container.name].group
+    return group.inode == container.seen.group.inode and (bool(group.cpus) or lives(turn, container))
+
+
+def cpus_drifted(turn: Turn, container: Container) -> bool:
+    """Whether somebody else wrote its CPUs."""
+    return is_still_there(turn, container) and turn.there[container.name].group.cpus != container.cpus
+
+
+def has_drifted(turn: Turn, container: Container) -> bool:
+    """Whether somebody else wrote its CPUs, or its nodes."""
+    nodes = is_still_there(turn, container) and nodes_drifted(turn.ledger, container, turn.there[container.name])
+    return nodes or cpus_drifted(turn, container)
+
+
+def is_in_the_way(turn: Turn, name: str, other: Container) -> bool:
+    """Whether it requests CPUs by now that the other one was given; those on the pool share them."""
+    on_the_pool = not other.state.is_pinned and not turn.ledger.containers[name].state.is_pinned
+    return name != other.name and not on_the_pool and bool(turn.strays.get(name, NO_CPUS) & (other.cpus or NO_CPUS) - turn.ledger.reserved)
+
+
+def give_back_first(turn: Turn, container: Container) -> Steps[None]:
+    """Brings one to the reserved CPUs."""
+    why = (yield Write(container.seen.group.path, "cpuset.cpus", print_list(turn.ledger.reserved))).why
+    if not why:
+        turn.strays[container.name] = turn.ledger.reserved
 
 
 def nodes_drifted(ledger: Ledger, container: Container, sighting: Sighting) -> bool:
@@ -122,29 +162,69 @@ def nodes_drifted(ledger: Ledger, container: Container, sighting: Sighting) -> b
 
 
 def mend(turn: Turn, container: Container, sighting: Sighting) -> Steps[None]:
-    """Writes again what a group was given, by telling of it anew. At a container's own end, or restart, there is nothing to mend."""
+    """Writes again what a group was given, by telling of it anew, once nobody requests that who is not told of."""
     ledger, name, group = turn.ledger, container.name, sighting.group
-    if group.inode != container.seen.group.inode or (not group.cpus and not lives(turn, container)):
-        return
     if not ledger.is_over("container", name, turn.now):
         return
-    cpus = container.cpus or NO_CPUS
-    if group.cpus != cpus:
-        what = f"{print_list(group.cpus)} in place of {print_list(cpus)}"
-    else:
-        what = f"nodes {print_list(group.nodes or NO_CPUS)} in place of {print_list(written(ledger, container.nodes))}"
-    yield from report(ledger, Topic.DRIFT, name, Kind.DRIFT, f"{ledger.title(name)} has {what}: that is written again")
+    what, cpus = what_drifted(ledger, container, group), container.cpus or NO_CPUS
+    others = [container for container in ledger.containers.values() if container.name in turn.strays]
+    if cpus & requested_by_untold(turn) or any(is_in_the_way(turn, other.name, container) for other in others):
+        text = f"{ledger.title(name)} has {what}: another group requests some of these, and can't be told of yet"
+        yield from report(ledger, Topic.DRIFT, name, Kind.DRIFT, text)
+        return
+    yield from say_drift(ledger, container, sighting, f"{ledger.title(name)} has {what}: that is written again")
     yield from untell(ledger, name)
     yield Link(name, group.path)
     reply = yield from ask(ledger, Tell(Verb.ADOPT, name, container.given.config, cpus))
+    turn.strays.pop(name, None)
     if reply.fault is None:
-        ledger.change(name, seen=dataclasses.replace(sighting, nodes=container.followed))
-        turn.there[name] = ledger.containers[name].seen
-        ledger.settle(Topic.DRIFT, name)
+        ledger.change(name, seen=dataclasses.replace(container.seen, group=group, nodes=container.followed))
+        turn.there[name] = dataclasses.replace(sighting, nodes=container.followed)
+        if (Topic.DRIFT, name) not in ledger.unsaid:  # else it is said at the next look
+            ledger.settle(Topic.DRIFT, name)
         return
     del ledger.containers[name]
     yield from refuse(turn, name, dataclasses.replace(sighting, stamp=None), reply)
     yield from report(ledger, Topic.DRIFT, name, Kind.DRIFT, f"{ledger.title(name)}: that can't be written again")
+
+
+def what_drifted(ledger: Ledger, container: Container, group: Group) -> str:
+    if group.cpus != container.cpus:
+        return f"{print_list(group.cpus)} in place of {print_list(container.cpus or NO_CPUS)}"
+    return f"nodes {print_list(group.nodes or NO_CPUS)} in place of {print_list(written(ledger, container.nodes))}"
+
+
+def say_drift(ledger: Ledger, container: Container, sighting: Sighting, text: str) -> Steps[None]:
+    """Says that somebody wrote a group. By an update runc writes the list first, and then its state, by which the list is followed; so of
+    its containers that is said at the next look, unless the state has another list by then."""
+    key = Topic.DRIFT, container.name
+    if sighting.listed != container.seen.listed:
+        return
+    if sighting.told.listed is None or key in ledger.unsaid:
+        yield from report(ledger, *key, Kind.DRIFT, text)
+    elif key not in ledger.problems:
+        ledger.problems[key] = Problem(Kind.DRIFT, container.name, text)
+        ledger.unsaid.add(key)
+
+
+def say_mended(turn: Turn, container: Container) -> Steps[None]:
+    """Of one that has again what it was given: says of a drift what was left for this look, if its runtime's state has the same list."""
+    ledger, key = turn.ledger, (Topic.DRIFT, container.name)
+    problem = ledger.problems.get(key)
+    if problem and key in ledger.unsaid and turn.there[container.name].listed == container.seen.listed:
+        yield Say(problem.line, Level.WARNING)
+    ledger.settle(*key)
+
+
+def keep_lists(turn: Turn) -> None:
+    """Of whom its runtime gave another list, that is what its group requested, for --release and the next agent."""
+    ledger = turn.ledger
+    for container in ledger.containers.values():
+        seen, taken = container.seen, ledger.taken.get(container.seen.group.path)
+        text = seen.listed or seen.told.listed
+        if taken and text and taken.inode == seen.group.inode and (taken.listed or seen.listed) and (taken.cpus, taken.listed) != (text, bool(seen.listed)):
+            ledger.taken[seen.group.path] = dataclasses.replace(taken, cpus=text, listed=bool(seen.listed))
+            turn.unsaved = True
 
 
 def compare_effective(turn: Turn, container: Container, sighting: Sighting) -> Steps[None]:

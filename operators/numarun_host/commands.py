@@ -111,13 +111,15 @@ class SetLimit:
 @dataclass(frozen=True)
 class Taken:
     """What a group requested before the agent took it up, as texts; nothing where that can't be read. `system` is one of the system's;
-    `limit` is that of one that has none now, since it was lifted."""
+    `limit` is that of one that has none now, since it was lifted; one is `listed` whose CPUs are those that an update by its runtime wrote
+    since."""
 
     inode: int
     cpus: Optional[str]
     nodes: Optional[str]
     system: bool
     limit: Optional[Limit] = None
+    listed: bool = False
 
 
 @dataclass(frozen=True)

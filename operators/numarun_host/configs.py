@@ -154,10 +154,11 @@ def other_limit(config: Config, limit: Optional[Limit]) -> Optional[Limit]:
     return limit
 
 
-def limited(config: Config, limit: Optional[Limit], nodes: Optional[Cpus]) -> Config:
-    """The config with what its group has by now, where that is another limit, or other nodes of memory."""
+def limited(config: Config, limit: Optional[Limit], nodes: Optional[Cpus], cpus: Optional[str] = None) -> Config:
+    """The config with what its group has by now, where that is another limit, or other nodes of memory, or another list of CPUs by its
+    runtime."""
     members: Dict[str, object] = {"quota": limit[0], "period": limit[1]} if limit else {}
-    members.update({"mems": print_list(nodes)} if nodes else {})
+    members.update({"mems": print_list(nodes)} if nodes else {}, **({"cpus": cpus} if cpus else {}))
     return of_section(config, **members) if members else config
 
 
@@ -168,6 +169,14 @@ def nodes_named(config: Config) -> Cpus:
         return read_list(text, "mems") if isinstance(text, str) else NO_CPUS
     except Refused:
         return NO_CPUS
+
+
+def same_list(one: str, other: object) -> bool:
+    """Whether two texts are lists of the same CPUs."""
+    try:
+        return isinstance(other, str) and read_list(one, "cpus") == read_list(other, "cpus")
+    except Refused:
+        return False
 
 
 def cpus_allowed(config: Config, present: Cpus) -> Cpus:

@@ -5,7 +5,7 @@ from __future__ import annotations
 
 from typing import Dict, List, Optional, Set, Tuple, Union
 
-from .changes import end_those_gone, follow_all, mend_all, undo_late_writes
+from .changes import end_those_gone, follow_all, keep_lists, mend_all, undo_late_writes
 from .commands import Ask, Command, LeaveFigures, LeaveState, Level, SaveTaken, Say, Start, Steps
 from .cpus import Cpus, print_list
 from .ledger import Kind, Ledger, State, Topic, report, say_unsaid
@@ -20,6 +20,9 @@ from .seen import Folder, Look
 from .sightings import see_all
 from .slices import let_go
 from .telling import Turn, ask
+
+
+NO_FOLDER = ""  # of no folder's path
 
 
 def decide(before: Ledger, look: Look) -> Steps[Ledger]:
@@ -67,6 +70,7 @@ def settle_the_rest(turn: Turn) -> Steps[None]:
 def leave(turn: Turn) -> Steps[None]:
     """Keeps what was taken, and leaves the figures."""
     ledger = turn.ledger
+    keep_lists(turn)
     held = {container.seen.group.path for container in ledger.containers.values()}
     for path, taken in list(ledger.taken.items()):
         group = turn.look.group(path)
@@ -143,10 +147,14 @@ def say_pool_end(ledger: Ledger, command: str, fault: Optional[str]) -> Steps[No
 
 
 def say_silent(ledger: Ledger, folders: Tuple[Folder, ...]) -> Steps[None]:
-    """Says once of a watched folder that it is not there, or that at two looks none of its entries was a container."""
-    silent: Dict[str, Tuple[int, str]] = {}
+    """Says once of a watched folder that it is not there, or that at two looks none of its entries was a container. Runtimes that are not
+    there are named together, at the first look."""
+    silent: Dict[str, Tuple[int, str]] = {NO_FOLDER: (1, "")} if folders else {}
+    lacking = ", ".join(folder.path for folder in folders if folder.by_runtime and not folder.there)
+    if lacking and NO_FOLDER not in ledger.silent:
+        yield Say(f"note no such folders yet: {lacking}", Level.NOTICE)
     for folder in folders:
-        why = "no such folder yet" if not folder.there else ""
+        why = "no such folder yet" if not folder.there and not folder.by_runtime else ""
         if folder.entries and not folder.containers:
             why = f"none of its {folder.entries} entries is a container, as {folder.stranger}"
         if why:

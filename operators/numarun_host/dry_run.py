@@ -29,6 +29,8 @@ from .names import Names
 from .pool import POOL_LEAST, is_pool_least, pool_least_of
 from .program import Run
 from .script import BYTES, Refused, check_program, find_program, read_text
+from .sources import ROOT, is_word
+from .states import kept_in
 
 EXAMPLE = """examples, from the top of the repository:
   operators/numarun-dry-run examples/machines/two-socket.json examples/bundles/real-time --after examples/scripts/a-cpu-goes
@@ -119,19 +121,19 @@ def tell_all(numarun: Run, script: str) -> None:
 
 
 def create_all(trial: Trial) -> None:
-    """Makes the containers of a folder of bundles, each with a home if it names none."""
+    """Makes the containers of a folder of bundles, or of a runtime's state, each with a home if it names none."""
     numarun, running = trial.numarun, trial.words.running
     try:
         names = sorted(os.listdir(running))
     except OSError as why:
         raise Refused(f"{running}: {why.strerror}") from None
     for name in names:
-        bundle = os.path.join(running, name)
-        if name.split() == [name] and os.path.isfile(os.path.join(bundle, "config.json")):
-            told = with_home(trial, requested(numarun), bundle)
-            answer = numarun.ask(f"create {name} {told.bundle}")[0]
-            if answer.startswith("refused"):
-                print(f"{os.path.basename(sys.argv[0])}: passed over: {bundle}: {answer}", file=sys.stderr)
+        folder = os.path.join(running, name)
+        kept = kept_in(folder, ROOT)
+        if kept and is_word(name):
+            answer = kept.fault or numarun.ask(f"create {name} {with_home(trial, requested(numarun), kept.bundle).bundle}")[0]
+            if kept.fault or answer.startswith("refused"):
+                print(f"{os.path.basename(sys.argv[0])}: passed over: {folder}: {answer}", file=sys.stderr)
             elif trial.words.home != "none":
                 numarun.ask("rebalance")  # the home of the next one is by what this one has
 

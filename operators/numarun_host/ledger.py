@@ -12,7 +12,7 @@ from .configs import Config, Demand, Limit, Pin, stays
 from .cpus import NO_CPUS, Cpus
 from .machine import Machine
 from .partition import Layout
-from .seen import Group, Stamp, Told
+from .seen import Found, Group, Stamp, Told
 
 MOST_PAUSES = 64  # times the first one
 
@@ -45,8 +45,9 @@ class State(Enum):
 
 @dataclass(frozen=True)
 class Sighting:
-    """A container that is there, as it was seen. `limit` and `nodes` are those of its group where its config has others; with no stamp
-    its config can't be seen, and stands for what it has."""
+    """A container that is there, as it was seen. `limit` and `nodes` are those of its group where its config has others, and `listed` is
+    the list that an update by its runtime gave it in place of its config's; with no stamp its config can't be seen, and stands for
+    what it has."""
 
     told: Told
     stamp: Optional[Stamp]
@@ -57,11 +58,12 @@ class Sighting:
     age: int = 0
     stopped: bool = False
     near: Optional[int] = None  # the node of the device that it names
+    listed: Optional[str] = None
 
     @property
     def asks(self) -> Tuple[object, ...]:
         """What it asks for is the same as long as this is the same."""
-        return self.stamp, self.group.inode, self.limit, self.nodes, self.stopped
+        return self.stamp, self.group.inode, self.limit, self.nodes, self.stopped, self.listed
 
     @property
     def place(self) -> str:
@@ -91,8 +93,20 @@ class Container:
         return stays(self.seen.config)
 
 
+@dataclass(frozen=True)
+class Sighted:
+    """A container as it was seen, and by what: it is seen the same where all of these are the same."""
+
+    found: Found
+    container: Optional[Container]
+    taken: Optional[Taken]
+    sighting: Sighting
+
+
 class Topic(Enum):
     """Of what something can be left undone. Of each container, path and the like there is one thing at most under each topic."""
+
+    __hash__ = object.__hash__  # there is one of each, and Enum's own hash is slow
 
     CONTAINER = "container"
     STAYS = "stays"
@@ -195,6 +209,7 @@ class Ledger:
     containers: Dict[str, Container] = field(default_factory=dict)  # by id, in the order in which numarun was told of them
     problems: Dict[Key, Problem] = field(default_factory=dict)
     unsaid: Set[Key] = field(default_factory=set)          # those that are said at the next look, if they are there then
+    sighted: Dict[str, Sighted] = field(default_factory=dict)    # by id what was seen last, so that what is the same is not worked out again
     refused: Dict[str, Sighting] = field(default_factory=dict)   # who was refused, as it was seen then
     blocking: Dict[str, Sighting] = field(default_factory=dict)  # who runs on CPUs and can't be adopted at the moment
     taken: Dict[str, Taken] = field(default_factory=dict)        # by the path of the group
@@ -253,7 +268,7 @@ class Ledger:
 
     def settle(self, topic: Topic, of: str = "", *kinds: Kind) -> None:
         """It is done now, or what of these kinds was left."""
-        if (topic, of) in self.problems and (not kinds or self.problems[topic, of].kind in kinds):
+        if self.problems and (topic, of) in self.problems and (not kinds or self.problems[topic, of].kind in kinds):
             del self.problems[topic, of]
             self.unsaid.discard((topic, of))
 

@@ -23,7 +23,8 @@ def limit_of(ledger: Ledger, group: Group) -> Optional[Limit]:
 def lift_all(turn: Turn) -> Steps[None]:
     """Lifts the limits of those that have CPUs of their own, and gives back those of all others."""
     ledger = turn.ledger
-    due = [(container, group.limit) for container, group, _ in held(turn) if is_free_of_limits(ledger, container) and group.limit]
+    limited = list(limited_ones(turn))
+    due = [(container, group.limit) for container, group, _ in limited if is_free_of_limits(ledger, container) and group.limit]
     for container, limit in due:
         keep(turn, container, limit)
     if due and turn.unsaved:
@@ -31,19 +32,20 @@ def lift_all(turn: Turn) -> Steps[None]:
         turn.unsaved = False
     for container, limit in due:
         yield from lift(turn, container, limit)
-    for container, group, taken in held(turn):
+    for container, group, taken in limited:
         if taken.limit and not is_free_of_limits(ledger, container):
             yield from give_back(turn, container, group, taken.limit)
 
 
-def held(turn: Turn) -> Iterator[Tuple[Container, Group, Taken]]:
-    """The containers with their groups as the look found them, and what was kept of these."""
+def limited_ones(turn: Turn) -> Iterator[Tuple[Container, Group, Taken]]:
+    """The containers whose groups have limits, or had some that were lifted: with their groups as they were seen, and what was kept of these."""
     ledger = turn.ledger
     for container in list(ledger.containers.values()):
-        group, taken = turn.look.group(container.seen.group.path), ledger.taken.get(container.seen.group.path)
-        is_one = group is not None and taken is not None and group.inode == taken.inode == container.seen.group.inode
-        if is_one and group and taken and not container.seen.told.is_system and ledger.is_over("limit", container.name, turn.now):
-            yield container, group, taken
+        group = container.seen.group
+        taken = ledger.taken.get(group.path)
+        if taken and (group.limit or taken.limit) and taken.inode == group.inode and not container.seen.told.is_system:
+            if ledger.is_over("limit", container.name, turn.now):
+                yield container, group, taken
 
 
 def is_free_of_limits(ledger: Ledger, container: Container) -> bool:
@@ -62,19 +64,19 @@ def keep(turn: Turn, container: Container, limit: Optional[Limit]) -> None:
 
 
 def lift(turn: Turn, container: Container, limit: Limit) -> Steps[None]:
-    text = f"lift {turn.ledger.title(container.name)}: no limit in place of {limit[0]} {limit[1]}, since it has CPUs of its own"
-    yield from set_limit(turn, container, SetLimit(container.seen.group.path, container.seen.group.inode, None, limit), text)
+    if (yield from set_limit(turn, container, SetLimit(container.seen.group.path, container.seen.group.inode, None, limit))):
+        yield Say(f"lift {turn.ledger.title(container.name)}: no limit in place of {limit[0]} {limit[1]}, since it has CPUs of its own")
 
 
 def give_back(turn: Turn, container: Container, group: Group, limit: Limit) -> Steps[None]:
     """Lets a group have its limit again, if nobody gave it another one since."""
-    text = f"limit {turn.ledger.title(container.name)}: {limit[0]} {limit[1]} again"
-    if (yield from set_limit(turn, container, SetLimit(group.path, group.inode, limit, None), text)):
+    if (yield from set_limit(turn, container, SetLimit(group.path, group.inode, limit, None))):
+        yield Say(f"limit {turn.ledger.title(container.name)}: {limit[0]} {limit[1]} again")
         keep(turn, container, None)
 
 
-def set_limit(turn: Turn, container: Container, command: SetLimit, text: str) -> Steps[bool]:
-    """Writes it, and says so; whether that was done. Where the group has another limit by now, that is not lifted, and the next look finds it."""
+def set_limit(turn: Turn, container: Container, command: SetLimit) -> Steps[bool]:
+    """Writes it; whether that was done. Where the group has another limit by now, that is not lifted, and the next look finds it."""
     ledger, name = turn.ledger, container.name
     answer = yield command
     if answer.stale:
@@ -85,8 +87,6 @@ def set_limit(turn: Turn, container: Container, command: SetLimit, text: str) ->
         return False
     ledger.end_pause("limit", name)
     ledger.settle(Topic.LIMIT, name)
-    if not answer.stale:
-        yield Say(text)
     return not answer.stale
 
 

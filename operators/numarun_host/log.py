@@ -46,5 +46,10 @@ def logger() -> logging.Logger:
     return found
 
 
+def printable(line: str) -> str:
+    """A line in which what is no printable sign is escaped, since names and paths that others chose may have line ends in them."""
+    return line if line.isprintable() else "".join(sign if sign.isprintable() else ascii(sign)[1:-1] for sign in line)
+
+
 def say(log: logging.Logger, line: str, level: Level) -> None:
-    log.log(logging.WARNING if level is Level.WARNING else logging.INFO, "%s", line, extra={"priority": level.value})
+    log.log(logging.WARNING if level is Level.WARNING else logging.INFO, "%s", printable(line), extra={"priority": level.value})

@@ -59,6 +59,8 @@ class Eyes:
 
     def container(self, ledger: Ledger, name: str, told: Told) -> Union[Found, Missing]:
         path = f"{told.bundle}/config.json"
+        if told.fault:
+            return Missing(told, told.fault, in_parts=True)
         try:
             there = os.stat(path)
         except (OSError, ValueError):

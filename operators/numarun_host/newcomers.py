@@ -46,10 +46,14 @@ def take_all(turn: Turn) -> Steps[bool]:
 
 
 def is_new(turn: Turn, name: str, sighting: Sighting) -> bool:
-    """Whether it was not refused as it is."""
+    """Whether it was not refused as it is, and may be told of by now."""
+    return not is_refused(turn, name, sighting) and turn.ledger.is_over("container", name, turn.now)
+
+
+def is_refused(turn: Turn, name: str, sighting: Sighting) -> bool:
+    """Whether it was refused for good, as it is."""
     before = turn.ledger.refused.get(name)
-    same = before is not None and (before.asks, before.group.path) == (sighting.asks, sighting.group.path)
-    return not same and turn.ledger.is_over("container", name, turn.now)
+    return before is not None and (before.asks, before.group.path) == (sighting.asks, sighting.group.path)
 
 
 def keep_what_they_had(turn: Turn, come: List[Sighting]) -> Steps[None]:
@@ -187,19 +191,36 @@ def refuse(turn: Turn, name: str, sighting: Sighting, reply: Reply, cpus: Option
     return False
 
 
+def requested_by_untold(turn: Turn) -> Cpus:
+    """The CPUs outside the reserved ones that groups request of which numarun is not told: those that come or can't be told of at the moment,
+    and those with a process that an agent told of before."""
+    ledger, there = turn.ledger, turn.there
+    come = [seen.group.cpus for name, seen in there.items() if name not in ledger.containers and not is_refused(turn, name, seen)]
+    blocking = [seen.group.cpus for seen in ledger.blocking.values()]
+    unseen = [group.cpus for path in unseen_paths(turn) for group in [turn.look.group(path)] if group]
+    return NO_CPUS.union(*come, *blocking, *unseen) - ledger.reserved
+
+
+def unseen_paths(turn: Turn) -> List[str]:
+    """The groups that an agent told of before and nobody tells of now, and that have a process and CPUs that a plan may give to others."""
+    ledger = turn.ledger
+    known = {seen.group.path for seen in [*ledger.blocking.values(), *turn.there.values()]}
+    return [path for path, taken in ledger.taken.items()
+            if not taken.system and path not in known and turn.runs(path, taken.inode) and has_some(turn, path)]
+
+
 def is_held_up(turn: Turn) -> Steps[bool]:
-    """Whether somebody runs on CPUs who can't be told of at the moment, so that a plan might give these to others; says who."""
+    """Whether somebody runs on CPUs of which numarun does not know, as who can't be told of at the moment, so that a plan might give these to
+    others; says who."""
     ledger, there = turn.ledger, turn.there
     ledger.blocking = {name: seen for name, seen in ledger.blocking.items() if name in there or turn.runs(seen.group.path, seen.group.inode)}
-    known = {seen.group.path for seen in [*ledger.blocking.values(), *there.values()]}
-    unseen = [path for path, taken in ledger.taken.items()
-              if not taken.system and path not in known and turn.runs(path, taken.inode) and has_some(turn, path)]
+    unseen = unseen_paths(turn)
     for topic, of in [key for key in ledger.problems if key[0] is Topic.UNSEEN and key[1] not in unseen]:
         ledger.settle(topic, of)
     for path in unseen:
         text = f"{path}: it was told of before, and there is a process in it: no plan until it is told"
         yield from report(ledger, Topic.UNSEEN, path, Kind.UNSEEN, text)
-    return bool(ledger.blocking or unseen)
+    return bool(ledger.blocking or unseen or turn.strays)
 
 
 def has_some(turn: Turn, path: str) -> bool:

@@ -49,19 +49,18 @@ def choose_home(turn: Turn, sighting: Sighting, config: Config, count: int) -> O
         return None
     if sighting.near is not None and sighting.near in ledger.memory:
         return frozenset({sighting.near})
-    own, home = sighting.group.cpus & machine.present, None
-    if len(own) == count and not own & ledger.reserved:
+    own, home, allowed = sighting.group.cpus & machine.present, None, cpus_allowed(config, machine.present)
+    if len(own) == count and not own & ledger.reserved and own <= allowed:
         home = frozenset(machine.node_of[cpu] for cpu in own)
     else:
-        free = spare_cpus(turn) & cpus_allowed(config, machine.present)
-        home = home_of(machine, config, count, free, turn.look.free_memory)
+        home = home_of(machine, config, count, spare_cpus(turn) & allowed, turn.look.free_memory)
     return home if home and home != {node for node, cpus in enumerate(machine.nodes) if cpus} else None
 
 
 def demand_of(turn: Turn, sighting: Sighting, home: Optional[Cpus] = None) -> Demand:
     """What a container asks for."""
     settings = turn.ledger.settings
-    config = limited(sighting.config, sighting.limit, sighting.nodes)
+    config = limited(sighting.config, sighting.limit, sighting.nodes, sighting.listed)
     try:
         count, rather = (asked(config, rule, settings.machine) for rule in (settings.pin, Pin.ALL))
         if count is not None and not sighting.stopped:

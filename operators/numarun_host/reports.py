@@ -7,6 +7,8 @@ from typing import Dict, Optional
 from .cpus import print_list
 from .ledger import Container, Ledger, Topic
 
+PARTS = ("started", "containers", "problems", "reserved", "running", "pool", "counts", "certificate", "titles")  # of a ledger, that it is made of
+
 
 def status_of(ledger: Ledger) -> Dict[str, object]:
     return {
@@ -41,5 +43,3 @@ def is_news(before: Ledger, ledger: Ledger) -> bool:
     """Whether something of this is otherwise than it was."""
     return any(getattr(before, part) != getattr(ledger, part) for part in PARTS)
 
-
-PARTS = ("started", "containers", "problems", "reserved", "running", "pool", "counts", "certificate", "titles")

@@ -308,7 +308,7 @@ def say_fewer(turn: Turn) -> Steps[None]:
     ledger = turn.ledger
     for name, container in list(ledger.containers.items()):
         given, asked = container.given.count, container.demand.count
-        if container.state is not State.WAITING and given != asked:
+        if container.state is not State.WAITING and given != asked and not container.wanted:  # of one that wants other CPUs that is said
             text = f"{ledger.title(name)}: {given} of {asked} CPUs, as there are no more"
             yield from report(ledger, Topic.CONTAINER, name, Kind.FEWER, text)
         else:

@@ -13,12 +13,15 @@ from .partition import Partition
 @dataclass(frozen=True)
 class Told:
     """A container as it was told: its bundle, its folder below what is watched (none of a group of the system itself), its group where
-    the event names it, and which of those that were told under the id it is."""
+    the event names it, and which of those that were told under the id it is. `listed` is the list of CPUs that runc's state has, which
+    may be empty; `fault` is why it can't be told of."""
 
     bundle: str
     folder: Optional[str]
     group: Optional[str] = None
     turn: int = 0
+    listed: Optional[str] = None
+    fault: Optional[str] = None
 
     @property
     def is_system(self) -> bool:
@@ -88,13 +91,15 @@ class Online:
 
 @dataclass(frozen=True)
 class Folder:
-    """A watched folder: whether it is there, how many entries it has, how many of these are containers, and the first that is none."""
+    """A watched folder: whether it is there, how many entries it has, how many of these are containers, and the first that is none; and
+    whether it is watched since a runtime would keep its state there."""
 
     path: str
     there: bool = True
     entries: int = 0
     containers: int = 0
     stranger: str = ""
+    by_runtime: bool = False
 
 
 @dataclass(frozen=True)

@@ -6,9 +6,9 @@ import dataclasses
 from typing import Dict, Optional, Set, Tuple, Union
 
 from .commands import Steps
-from .configs import Limit, bare, nodes_named, other_limit
+from .configs import CPU, Limit, at, bare, nodes_named, other_limit, same_list
 from .cpus import NO_CPUS, Cpus
-from .ledger import CONTAINER_PAUSES, CONTAINER_TOPICS, Container, Kind, Ledger, Problem, Sighting, Topic, report
+from .ledger import CONTAINER_PAUSES, CONTAINER_TOPICS, Container, Kind, Ledger, Problem, Sighted, Sighting, Topic, report
 from .lifting import limit_of
 from .seen import Found, Group, Missing, Told
 from .slices import rest_of
@@ -40,14 +40,15 @@ def forget_those_gone(ledger: Ledger, names: Set[str]) -> None:
     kept |= {of for what, of in ledger.pauses if what in CONTAINER_PAUSES}
     for name in kept - names - ledger.containers.keys():
         ledger.forget(name)
+    for name in ledger.sighted.keys() - names:
+        del ledger.sighted[name]
 
 
 def see(turn: Turn, name: str, found: Union[Found, Missing]) -> Steps[None]:
     """Who can't be seen and has a process has not ended."""
     ledger = turn.ledger
     if isinstance(found, Found):
-        turn.there[name] = Sighting(found.told, found.stamp, found.config, found.group, *limits(ledger, name, found),
-                                     found.age, found.stopped, found.near)
+        turn.there[name] = sighting_of(ledger, name, found)
         ledger.settle(Topic.STAYS, name)
         ledger.settle(Topic.CONTAINER, name, Kind.ABSENT, Kind.OUTSIDE)
         return
@@ -67,6 +68,19 @@ def see(turn: Turn, name: str, found: Union[Found, Missing]) -> Steps[None]:
         yield from say_absent(ledger, name, found.why)
 
 
+def sighting_of(ledger: Ledger, name: str, found: Found) -> Sighting:
+    """One that is there, as it is seen. What is as it was at the last look is the same object, so that most of a look is no work."""
+    container, taken, before = ledger.containers.get(name), ledger.taken.get(found.group.path), ledger.sighted.get(name)
+    if before and before.found is found and before.container is container and before.taken is taken:
+        return before.sighting
+    sighting = Sighting(found.told, found.stamp, found.config, found.group, *limits(ledger, name, found), found.age, found.stopped, found.near,
+                        list_of(ledger, found))
+    if container and container.seen == sighting:
+        sighting = container.seen
+    ledger.sighted[name] = Sighted(found, container, taken, sighting)
+    return sighting
+
+
 def limits(ledger: Ledger, name: str, found: Found) -> Tuple[Optional[Limit], Optional[Cpus]]:
     """The limit and the nodes of a container's group, where somebody gave it others than its config has."""
     if found.told.is_system or not ledger.has_tree:
@@ -76,6 +90,18 @@ def limits(ledger: Ledger, name: str, found: Found) -> Tuple[Optional[Limit], Op
     if not nodes or nodes == written(ledger, has) or not are_known(ledger, nodes):
         nodes = container.followed if container else None
     return other_limit(found.config, limit_of(ledger, found.group)), nodes
+
+
+def list_of(ledger: Ledger, found: Found) -> Optional[str]:
+    """The list of CPUs that an update by its runtime gave a container. runc has it in its state until the next update of something else,
+    by which it forgets it; so the last one is kept."""
+    group, told = found.group, found.told.listed
+    if found.told.is_system or not ledger.has_tree:
+        return None
+    if told:
+        return None if same_list(told, at(found.config, *CPU, "cpus")) else told
+    before = ledger.taken.get(group.path)
+    return before.cpus if before and before.listed and before.inode == group.inode else None
 
 
 def written(ledger: Ledger, nodes: Optional[Cpus]) -> Cpus:
@@ -135,6 +161,8 @@ def see_left_by_one_before(turn: Turn) -> Steps[None]:
 def is_same(ledger: Ledger, container: Container, sighting: Sighting) -> bool:
     """Whether it is the container that numarun was told of: its group is the same, and was not made anew since."""
     before = container.seen
+    if sighting is before:
+        return True
     if sighting.told.is_system != before.told.is_system:
         return False
     if (sighting.stamp, sighting.group.inode) == (before.stamp, before.group.inode):

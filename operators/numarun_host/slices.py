@@ -67,7 +67,7 @@ def asks(ledger: Ledger, name: str, sighting: Sighting) -> bool:
     if container:
         return container.demand.count is not None
     try:
-        return asked(limited(sighting.config, sighting.limit, None), ledger.settings.pin, ledger.settings.machine) is not None
+        return asked(limited(sighting.config, sighting.limit, None, sighting.listed), ledger.settings.pin, ledger.settings.machine) is not None
     except Refused:
         return False
 

@@ -5,13 +5,15 @@ from __future__ import annotations
 
 import os
 import select
-from typing import Dict, List, Optional, Sequence, Tuple, Union
+from dataclasses import dataclass
+from typing import Dict, Iterator, List, Optional, Sequence, Tuple, Union
 
-from .cgroups import read_json
-from .configs import at
+from .runtimes import Watch
 from .script import Refused
 from .seen import Double, Folder, Told
+from .states import Kept, kept_in
 
+ROOT = "/sys/fs/cgroup"  # of the tree, where no other is named
 LINE = 8192  # bytes of an event, as of a line of a script
 PIECE = 1 << 16
 EVENTS = {"created": (2, 3), "started": (1,), "ended": (1,), "offline": (1,), "online": (1,), "rebalance": (0,)}
@@ -66,82 +68,108 @@ class Input:
         return ["rebalance"] if kind == "rebalance" else []
 
 
+@dataclass(frozen=True)
+class Entry:
+    """A container in a watched folder, and what is kept of it there."""
+
+    told: Told
+    kept: Kept
+
+    def is_of(self, other: Entry) -> bool:
+        """Whether both tell of one container, as of one group."""
+        return self is other or (self.kept.group is not None and self.kept.group == other.kept.group)
+
+
 class Folders:
     """The containers of folders: of bundles, or of the state of a runtime. Their ids are the entries. A folder that is not there yet
-    is an empty one. Of two containers of one id the one that is told already goes on, or else that of the folder that was named first."""
+    is an empty one. Of two containers of one id the one that is told already goes on, or else that of the folder that was named first.
+    If two folders tell of one group they tell of one container, and what its runtime keeps of it is more than what a hook does."""
 
     ended = False
 
-    def __init__(self, paths: Sequence[str]) -> None:
-        self.paths = paths
+    def __init__(self, watches: Sequence[Watch], root: str = ROOT) -> None:
+        self.watches, self.root = watches, root
         self.told: Dict[str, Told] = {}
-        self.known: Dict[str, Tuple[Tuple[int, int], Optional[Told]]] = {}  # by its folder what was told of it, and when that had changed last
+        self.known: Dict[str, Tuple[Tuple[int, int], Entry]] = {}  # by its folder what was told of it, and when that had changed last
         self.folders: Tuple[Folder, ...] = ()
         self.doubles: Tuple[Double, ...] = ()
         self.wrong: List[str] = []
         self.events: List[str] = []
 
     def look(self) -> None:
-        found: Dict[str, List[Told]] = {}
+        found: Dict[str, List[Entry]] = {}
         folders = []
-        for path in self.paths:
+        for path, by_runtime in self.paths():
             names, containers, stranger = self.names(path), 0, ""
             for name in sorted(names or []):
-                told = self.container(os.path.join(path, name))
-                if told:
-                    found.setdefault(name, []).append(told)
-                containers, stranger = containers + bool(told), stranger or ("" if told else name)
-            folders.append(Folder(path, names is not None, len(names or []), containers, stranger))
+                entry = self.entry(f"{path}/{name}")
+                if entry:
+                    found.setdefault(id_of(name), []).append(entry)
+                containers, stranger = containers + bool(entry), stranger or ("" if entry else name)
+            folders.append(Folder(path, names is not None, len(names or []), containers, stranger, by_runtime))
         self.folders = tuple(folders)
         chosen = {name: self.chosen(name, several) for name, several in found.items()}
-        self.doubles = tuple(Double(name, told.folder or "", chosen[name].folder or "")
-                             for name, several in found.items() for told in several if told is not chosen[name])
-        self.told = chosen
-        there = {told.folder for several in found.values() for told in several}
+        self.doubles = tuple(Double(name, entry.told.folder or "", chosen[name].told.folder or "")
+                             for name, several in found.items() for entry in several if not entry.is_of(chosen[name]))
+        self.told = {name: entry.told for name, entry in chosen.items()}
+        there = {entry.told.folder for several in found.values() for entry in several}
         self.known = {folder: known for folder, known in self.known.items() if folder in there}
 
-    def chosen(self, name: str, several: List[Told]) -> Told:
+    def paths(self) -> Iterator[Tuple[str, bool]]:
+        """The folders that are watched now, and whether a runtime's name stands for them; the one in which they are where there is none."""
+        for watch in self.watches:
+            if not watch.is_family:
+                yield watch.path, watch.by_runtime
+                continue
+            inside = [os.path.join(watch.parent, name) for name in sorted(self.names(watch.parent) or [])]
+            folders = [path for path in inside if os.path.isdir(path)]
+            for path in folders or [watch.parent]:
+                yield path, True
+
+    def chosen(self, name: str, several: List[Entry]) -> Entry:
+        if len(several) == 1:
+            return several[0]
         before = self.told.get(name)
-        return next((told for told in several if before and told.folder == before.folder), several[0])
+        first = next((entry for entry in several if before and entry.told.folder == before.folder), several[0])
+        return next((entry for entry in several if entry.is_of(first) and entry.kept.by_runtime), first)
 
     @staticmethod
     def names(path: str) -> Optional[List[str]]:
         """The entries that may be containers; nothing where there is no such folder."""
         try:
-            return [name for name in os.listdir(path) if name.split() == [name] and name[0] != "."]
+            return [name for name in os.listdir(path) if name[0] != "."]
         except FileNotFoundError:
             return None
         except OSError as why:
             raise Refused(f"{path}: {why.strerror}") from None
 
-    def container(self, folder: str) -> Optional[Told]:
-        """What is there of a container. Its state is read anew where its folder is another one, or has changed."""
+    def entry(self, folder: str) -> Optional[Entry]:
+        """What is there of a container. Its state is read anew where its folder is another one, or has changed, or was not as it ought to be."""
         try:
             found = os.stat(folder)
-        except OSError:
+        except (OSError, ValueError):
             return None
-        stamp, told = self.known.get(folder, (None, None))
-        if stamp != (found.st_ino, found.st_mtime_ns) or told is None:
-            bundle = bundle_of(folder)
-            told = Told(bundle, folder) if bundle else None
-            self.known[folder] = (found.st_ino, found.st_mtime_ns), told
-        return told
+        stamp = found.st_ino, found.st_mtime_ns
+        known = self.known.get(folder)
+        if known and known[0] == stamp and not known[1].kept.fault:
+            return known[1]
+        kept = kept_in(folder, self.root)
+        if kept is None:
+            return None
+        fault = kept.fault if is_word(os.path.basename(folder)) else f"{ascii(folder)}: a name with blanks, or with signs that can't be printed, is no id"
+        entry = Entry(Told(kept.bundle, folder, listed=kept.listed, fault=fault), kept)
+        self.known[folder] = stamp, entry
+        return entry
+
+
+def is_word(name: str) -> bool:
+    """Whether a name can stand in a line."""
+    return name.isprintable() and name.split() == [name]
+
+
+def id_of(name: str) -> str:
+    """The id of an entry; one that is no word stands between quotation marks, as no other does."""
+    return name if is_word(name) else ascii(name)
 
 
 Source = Union[Input, Folders]
-
-
-def bundle_of(folder: str) -> Optional[str]:
-    """The bundle that a folder is, or, where it is the state that runc keeps, that it names; or nothing."""
-    if os.path.isfile(os.path.join(folder, "config.json")):
-        return folder
-    state = os.path.join(folder, "state.json")
-    if os.path.isfile(state):
-        try:
-            labels = at(read_json(state), "config", "labels")
-        except Refused:
-            return None
-        for label in labels if isinstance(labels, list) else []:
-            if isinstance(label, str) and label.startswith("bundle="):
-                return label[len("bundle="):]
-    return None

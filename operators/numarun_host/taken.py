@@ -46,7 +46,8 @@ class Record:
 
     def save(self, groups: Mapping[str, Taken]) -> None:
         entries = {path: entry_of(taken) for path, taken in groups.items()}
-        replace_file(self.path, json.dumps({"all": list(self.whole), "groups": entries}))
+        listed = [path for path, taken in groups.items() if taken.listed]
+        replace_file(self.path, json.dumps({"all": list(self.whole), "groups": entries, "listed": listed}))
 
 
 def entry_of(taken: Taken) -> List[object]:
@@ -64,7 +65,7 @@ def read_record(work: str) -> Record:
     record.whole = whole_of(found.get("all"))
     groups = found.get("groups")
     for path, entry in groups.items() if isinstance(groups, dict) else []:
-        taken, inode = taken_of(entry), inode_of(path)
+        taken, inode = taken_of(entry, is_named(path, found.get("listed"))), inode_of(path)
         if taken and inode == taken.inode:
             record.groups[path] = taken
         elif taken and inode:
@@ -78,12 +79,16 @@ def whole_of(found: object) -> Whole:
     return None, None
 
 
-def taken_of(entry: object) -> Optional[Taken]:
+def is_named(path: str, paths: object) -> bool:
+    return isinstance(paths, list) and path in paths
+
+
+def taken_of(entry: object, listed: bool = False) -> Optional[Taken]:
     if not isinstance(entry, list) or len(entry) not in (4, 5):
         return None
     inode, cpus, nodes, system = entry[:4]
     texts = all(text is None or isinstance(text, str) for text in (cpus, nodes))
-    return Taken(inode, cpus, nodes, bool(system), limit_of(entry[4:])) if isinstance(inode, int) and texts else None
+    return Taken(inode, cpus, nodes, bool(system), limit_of(entry[4:]), listed) if isinstance(inode, int) and texts else None
 
 
 def limit_of(members: List[object]) -> Optional[Limit]:

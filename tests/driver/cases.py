@@ -49,7 +49,7 @@ MADE = (
     Test("both", needs=("PROGRAM", "TOOLS"), cases="PARTS"),
     Test("last"),
 )
-SAYS = 'echo "$0 PROGRAM=${PROGRAM:-} TOOLS=${TOOLS:-} PARTS=${PARTS:-}"; pwd'
+SAYS = 'echo "$0 PROGRAM=${PROGRAM:-} TOOLS=${TOOLS:-} PARTS=${PARTS:-}${BUILD:+ BUILD=$BUILD}"; pwd'
 
 
 class Driver(unittest.TestCase):
@@ -66,17 +66,17 @@ class Driver(unittest.TestCase):
         path = self.top / "maker" if name == "maker" else self.top / "tests" / f"{name}.sh"
         path.write_text(text + "\n", encoding="utf-8")
 
-    def started(self, *words: str, tests: str = "cases.MADE") -> "subprocess.Popen[str]":
+    def started(self, *words: str, tests: str = "cases.MADE", **named: str) -> "subprocess.Popen[str]":
         """The driver over the made tests, in a process of its own, which leads its group as in a terminal."""
         call = f"import pathlib, sys; sys.path[:0] = [{str(HERE)!r}]; import cases\n" \
                f"sys.exit(cases.driver.main({list(words)!r}, {tests}, pathlib.Path({str(self.top)!r})))"
-        clear = {name: text for name, text in os.environ.items() if name not in ("PROGRAM", "TOOLS", "PARTS")}
+        clear = {name: text for name, text in os.environ.items() if name not in ("PROGRAM", "TOOLS", "PARTS", "BUILD")}
         return subprocess.Popen([sys.executable, "-B", "-u", "-c", call], stdout=subprocess.PIPE, stderr=subprocess.STDOUT, text=True,
-                                env=clear, start_new_session=True, preexec_fn=heeds_interrupts)
+                                env={**clear, **named}, start_new_session=True, preexec_fn=heeds_interrupts)
 
-    def run_of(self, *words: str, tests: str = "cases.MADE") -> tuple[int, list[str]]:
+    def run_of(self, *words: str, tests: str = "cases.MADE", **named: str) -> tuple[int, list[str]]:
         """Its status, and what it and the tests print, without the times."""
-        process = self.started(*words, tests=tests)
+        process = self.started(*words, tests=tests, **named)
         out, _ = process.communicate(timeout=60)
         return process.returncode, [self.without_times(line) for line in out.splitlines()]
 
@@ -138,15 +138,28 @@ class Driver(unittest.TestCase):
     def test_names(self) -> None:
         for words, run in (
             (("last", "first"), ["first PROGRAM= TOOLS= PARTS=", "last PROGRAM= TOOLS= PARTS="]),
-            (("one",), ["one PROGRAM= TOOLS= PARTS="]),
-            (("--from", "both"), ["both PROGRAM= TOOLS= PARTS=", "last PROGRAM= TOOLS= PARTS="]),
-            (("both/gone", "both/killed/4"), ["both PROGRAM= TOOLS= PARTS=gone killed/4"]),
-            (("both/gone", "both"), ["both PROGRAM= TOOLS= PARTS="]),
+            (("--build", "one"), ["one PROGRAM= TOOLS= PARTS= BUILD=1"]),
+            (("--build", "--from", "both"), ["both PROGRAM= TOOLS= PARTS= BUILD=1", "last PROGRAM= TOOLS= PARTS= BUILD=1"]),
+            (("--build", "both/gone", "both/killed/4"), ["both PROGRAM= TOOLS= PARTS=gone killed/4 BUILD=1"]),
+            (("--build", "both/gone", "both"), ["both PROGRAM= TOOLS= PARTS= BUILD=1"]),
         ):
             with self.subTest(words=words):
                 status, lines = self.run_of(*words)
                 self.assertEqual([line[6:].replace(".sh", "") for line in lines if line.startswith("tests/")], run)
                 self.assertEqual((status, lines[-1]), (0, f"{len(run)} passed, 0 failed"))
+
+    def test_no_program(self) -> None:
+        """Nothing is built, or run, unasked."""
+        why = "no program: {} in the environment name{} what it needs; --build proves and builds that first, which takes up to an hour"
+        one, both = f"tests/run: one: {why.format('PROGRAM', 's')}", f"tests/run: both: {why.format('PROGRAM and TOOLS', '')}"
+        for words, says in ((("one",), [one]), (("first", "one", "both"), [one, both]), (("--from", "one"), [one, both])):
+            with self.subTest(words=words):
+                self.assertEqual(self.run_of(*words), (2, says))
+        self.assertEqual(self.run_of("both", PROGRAM="/p"), (2, [f"tests/run: both: {why.format('TOOLS', 's')}"]))
+        status, lines = self.run_of("both", PROGRAM="/p", TOOLS="/t")
+        self.assertEqual((status, lines[1]), (0, "tests/both.sh PROGRAM=/p TOOLS=/t PARTS="))
+        status, lines = self.run_of("both", "maker")
+        self.assertEqual((status, lines[4]), (0, "tests/both.sh PROGRAM=TOP/out/program TOOLS=TOP/out/tools PARTS="))
 
     def test_words_that_name_none(self) -> None:
         for words, says in (

@@ -15,8 +15,8 @@ HERE = os.path.dirname(os.path.abspath(__file__))
 TOP = os.path.dirname(os.path.dirname(HERE))
 MODULES = """__future__ _strptime argparse bisect collections contextlib copy ctypes dataclasses datetime encodings.ascii encodings.latin_1
 encodings.utf_8 enum errno fcntl gettext importlib itertools json linecache locale logging math os pathlib random re select selectors
-shlex shutil signal socket subprocess sys tempfile textwrap threading time tokenize traceback typing zlib""".split()
-AT_A_DESK = "html pyexpat site xml.etree.ElementTree".split()
+shlex shutil signal site socket subprocess sys tarfile tempfile textwrap threading time tokenize traceback typing zlib""".split()
+AT_A_DESK = "html pyexpat xml.etree.ElementTree".split()
 PACKAGES = "bash dash coreutils sed grep mawk findutils gzip tar dpkg diffutils hwloc-nox hwloc".split()
 
 
@@ -58,7 +58,9 @@ def put_desk(root, program):
         os.symlink(f"/usr/bin/{name}", f"{root}/bin/{name}")
     for name in ("docs", "examples", "operators"):
         shutil.copytree(os.path.join(TOP, name), f"{root}/numarun/{name}", ignore=shutil.ignore_patterns("__pycache__"))
-    put(root, os.path.join(TOP, "README.md"), "/numarun/README.md")
+    if shutil.which("dh_python3"):  # the package is made here, since what makes it is no part of a small machine
+        words = ["bash", os.path.join(TOP, "operators", "install.sh"), "--deb", root]
+        subprocess.run(words, env={**os.environ, "PROGRAM": program}, stdout=subprocess.DEVNULL, check=True)
     put(root, program, "/numarun/crates/numarun/out/numarun")
 
 
@@ -70,14 +72,16 @@ def main(root, *files):
     python, *modules = files_of_python(AT_A_DESK if desk else [])
     put_linked(root, python)
     os.symlink(python, f"{root}/bin/python3")
+    put_linked(root, "/usr/bin/env")
     for path in modules:
         put_linked(root, path) if path.endswith(".so") else put(root, path)
     if desk:
         put_desk(root, program)
+    put(root, os.path.join(TOP, "README.md"), "/numarun/README.md")
     for folder in ("operators", "tests/linux"):
         for place, _, names in os.walk(os.path.join(TOP, folder)):
             for name in names:
-                if name.endswith((".py", ".json")) or name.startswith("numarun-"):
+                if name.endswith((".py", ".json", ".md")) or name.startswith("numarun-"):
                     path = os.path.join(place, name)
                     put(root, path, "/numarun/" + os.path.relpath(path, TOP))
     for path in files:

@@ -70,9 +70,9 @@ def cpus(text):
     return read_list(text, "a list") if text.strip() else set()
 
 
-def until(holds):
+def until(holds, seconds=PATIENCE):
     """Waits until this holds, for the kernel does some things a moment later."""
-    end = time.monotonic() + PATIENCE
+    end = time.monotonic() + seconds
     while not holds():
         if time.monotonic() > end:
             return False

@@ -69,7 +69,8 @@ class Agent:
     """An agent that runs; what it says is in a file."""
 
     def __init__(self, *more, watch=FOLDER):
-        self.process = subprocess.Popen(words("--watch", watch, "--pause", "0.1", *more), stdin=subprocess.DEVNULL, stdout=open(OUT, "a"),
+        watching = ["--watch", watch] if watch else []
+        self.process = subprocess.Popen(words(*watching, "--pause", "0.1", *more), stdin=subprocess.DEVNULL, stdout=open(OUT, "a"),
                                         stderr=subprocess.STDOUT)
 
     def until(self, holds, what):
@@ -99,6 +100,14 @@ def lines():
 
 def requested(path):
     return read(f"{ROOT}/{path}/cpuset.cpus")
+
+
+def timed(step, *words):
+    """A step of a part, which may take minutes, so that its seconds are said."""
+    began = time.monotonic()
+    found = step(*words)
+    tree.say(f"{step.__name__} in {time.monotonic() - began:.0f} s")
+    return found
 
 
 def runs_on(pid, cpus):

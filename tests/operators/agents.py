@@ -7,14 +7,13 @@ import re
 import shutil
 import signal
 import subprocess
-import sys
 
-from sites import IN_FOLDERS, QUOTA, SCRATCH, Open, Site, untimed
-from numarun_host import cgroups, sources
+from sites import IN_FOLDERS, QUOTA, Open, Site, untimed
+from numarun_host import cgroups, states
 from numarun_host.cpus import read_list
 from numarun_host.program import Run
 from numarun_host.script import Refused
-from trial import EXAMPLES, bad_files, bad_output, check, end, piped, refuses, told, words_and_help
+from trial import EXAMPLES, bad_files, bad_output, case, check, long_case, piped, refuses, scratch, told, words_and_help
 
 
 MACHINE = os.path.join(EXAMPLES, "machines", "two-socket.json")
@@ -22,6 +21,7 @@ DATABASE, PACKETS, WEB, CONTROL = (f"examples/bundles/{name}" for name in ("data
 PLAIN = (MACHINE, "--program", IN_FOLDERS)
 
 
+@case
 def plain():
     """Without a tree: the plans alone."""
     events = f"created database {DATABASE}\ncreated packets {PACKETS}\n"
@@ -42,6 +42,7 @@ def plain():
     check("and what is behind it", lines[-2:], ["pool 0,9-16,25-31", "done"])
 
 
+@case
 def restart():
     """A new run adopts what the groups request, and writes nothing else into them."""
     site = Site()
@@ -63,6 +64,7 @@ def restart():
     check("the links are the agent's own", sorted(os.listdir(site.at("work/tree/numarun"))), ["b", "c", "s"])
 
 
+@case
 def under_its_id():
     """A container that came back under its id, one whose group is not there, and one with a config in parts."""
     site = Site()
@@ -95,6 +97,7 @@ def under_its_id():
     check("a bundle whose group went is left undone", agent.end()[0], 1)
 
 
+@case
 def refused_writes():
     """A tree that turns read-only and back, for an agent that runs and for one that starts."""
     site = Site()
@@ -105,8 +108,9 @@ def refused_writes():
     site.come("b", 1)
     check("read-only", agent.until("failed"), ["failed b/cpuset.cpus: 0: Read-only file system (os error 30)"])
     site.go("a")
+    lines = agent.until("ended a")
     os.remove(site.at("work/tree/read-only"))
-    lines = agent.until("create b") + agent.until("done")
+    lines += agent.until("create b") + agent.until("done")
     check("writable again", (site.has("b"), agent.end()), (["1"], (0, [])))
     check("said once", [line for line in lines if line.startswith("failed")], [])
     site.come("c", 1)
@@ -132,6 +136,7 @@ def refused_writes():
     check("and behind it", (site.run()[0], site.has("b", "c", "s")), (0, ["1", "2", "0,3-5"]))
 
 
+@case
 def admission():
     """A newcomer without a place runs on the pool, also across a restart, until there is room."""
     site = Site()
@@ -162,6 +167,7 @@ def admission():
     check("it is pinned", (site.has("b", "big", "c", "s"), agent.end()[0]), (["5-6", "1-3", "7", "0,4"], 0))
 
 
+@case
 def fewer():
     """One that takes fewer CPUs where one went, also across a restart, and a newcomer that does."""
     site = Site()
@@ -188,6 +194,7 @@ def fewer():
     check("and one without a place", (status, site.has("a", "b", "c"), sum(line.startswith("waits") for line in lines)), (1, ["5-6", "1-2", "3"], 1))
 
 
+@case
 def who_is_pinned():
     site = Site()
     site.come("whole", 2)
@@ -202,6 +209,7 @@ def who_is_pinned():
         check(f"--pin {rule}", (status, site.has("whole", "part", "said", "listed")), (0, expected))
 
 
+@case
 def named_cpus():
     """One with no quota asks for the cores that it names as a whole, but for reserved ones, and not for as many CPUs as it names."""
     site = Site(machine={"nodes": ["0-3,8-11", "4-7,12-15"], "distances": [[10, 21], [21, 10]], "reserved": "0,8",
@@ -213,6 +221,7 @@ def named_cpus():
           (0, [f"adopt a {site.at('g/a')} 1-2,9-10", "home a 0"], ["1-2,9-10"]))
 
 
+@case
 def refused_sections():
     """Who asks for CPUs that nobody can have runs on the pool, and is told anew when the config is another one."""
     site = Site()
@@ -232,6 +241,7 @@ def refused_sections():
     check("a config of another time", (site.has("a", "none"), agent.end()[0]), (["1-2", "5"], 1))
 
 
+@case
 def pool_hook():
     site = Site()
     site.come("a", 2)
@@ -244,6 +254,7 @@ def pool_hook():
     check("a hook that fails", site.run("--pool", "false"), (1, expected))
 
 
+@case
 def flapping():
     """Ten CPUs that go and come: who has none of them is not written again."""
     site = Site({"nodes": ["0-15"], "distances": [[10]], "reserved": "0"})
@@ -280,6 +291,7 @@ def flapping():
     check("ten CPUs at once", (site.has("a", "b"), agent.end()[0]), (["1-3", "14-15"], 0))
 
 
+@long_case
 def storm(count=400):
     """400 containers at once: one plan, and two writes each. They end at once, too."""
     site = Site({"nodes": ["0-127"], "distances": [[10]], "reserved": "0"})
@@ -297,6 +309,7 @@ def storm(count=400):
     check("its end", (site.has("c000"), agent.end()[0]), (["1"], 0))
 
 
+@case
 def rest():
     """Groups of the system itself are held on the pool; one that is not there is none, and comes when it is."""
     site = Site()
@@ -314,6 +327,7 @@ def rest():
     check("without a tree", (status, "--rest is of a tree" in err), (2, True))
 
 
+@case
 def recorded():
     """The figures for node_exporter, and the certificates by their dates, which hold."""
     site = Site({"nodes": ["0-3", "4-7"], "distances": [[10, 21], [21, 10]], "reserved": "0"})
@@ -344,6 +358,7 @@ def recorded():
     refuses("numarun-agent", *PLAIN, "--certificates", "/proc/no/where", says="/proc/no/where: No such file")
 
 
+@case
 def one_agent():
     """The second one is refused; after a kill -9 the next one waits for the run of the one before."""
     site = Site()
@@ -363,6 +378,7 @@ def one_agent():
     agent.end(signal.SIGINT)
 
 
+@case
 def beside_a_run():
     """An agent beside a run by hand, and a run beside an agent: who comes second is refused."""
     site = Site()
@@ -382,6 +398,7 @@ def beside_a_run():
     check("a run beside an agent", (why, site.has("a"), agent.end()[0]), (says, ["1"], 0))
 
 
+@case
 def told_by_lines():
     """Events of standard input, with groups of their own."""
     site = Site()
@@ -403,6 +420,7 @@ def told_by_lines():
     check("the end of input", agent.process.wait(), 0)
 
 
+@case
 def places():
     """Where runtimes say that a group is."""
     site = Site()
@@ -424,16 +442,17 @@ def places():
             json.dump(file[1], open(os.path.join(state, file[0]), "w"))
         check(f"the group of {config} {file}", cgroups.group_path(site.at("root"), "numarun", "c", config, state, None), site.at("root", expected))
     json.dump({"config": {"labels": ["x=y", "bundle=/some/where"]}}, open(os.path.join(state, "state.json"), "w"))
-    check("runc's bundle", sources.bundle_of(state), "/some/where")
+    check("runc's bundle", states.kept_in(state, "/"), states.Kept("/some/where", by_runtime=True))
 
 
+@long_case
 def refusals():
     words_and_help("numarun-agent", "operators/numarun-agent examples/machines/two-socket.json")
     refuses("numarun-agent", MACHINE, "--program", "no-such-program", says="no-such-program: no program (see --program)")
     bad_files("numarun-agent", ["--program", IN_FOLDERS])
     bad_output("numarun-agent", *PLAIN, text="rebalance\n")
     piped("numarun-agent", *PLAIN, text="rebalance\n")
-    name = os.path.join(SCRATCH, "ends")
+    name = scratch("ends")
     with open(name, "w") as file:
         file.write("#!/bin/sh\nread line; echo settled; read line\n")
     os.chmod(name, 0o755)
@@ -449,10 +468,3 @@ def refusals():
     site = Site()
     open(site.at("root/cpuset.cpus.effective"), "w").write("8-30\n")
     refuses("numarun-agent", *site.words(), says=f"machine.json: none of its CPUs is there, or in effect in {site.at('root')}")
-
-
-for part in (plain, restart, under_its_id, refused_writes, admission, fewer, who_is_pinned, named_cpus, refused_sections, pool_hook, flapping, storm,
-             rest, recorded, one_agent, beside_a_run, told_by_lines, places, refusals):
-    if not sys.argv[1:] or part.__name__ in sys.argv[1:]:
-        part()
-end("numarun-agent")

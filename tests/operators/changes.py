@@ -3,21 +3,16 @@ into a group, and a machine that is another one than the machine file's."""
 
 import os
 import signal
-import sys
 import time
 
-from sites import IN_FOLDERS, QUOTA, Open, Site
+from sites import QUOTA, Open, Site, of
 from numarun_host.cpus import read_list
 from numarun_host.ledger import Ledger, Settings, Topic
 from numarun_host.machine import Machine
 from numarun_host.sightings import say_absent
-from trial import check, end
+from trial import case, check
 
 LEAST, STAY = "numarun.least", "numarun.stay"
-
-
-def of(lines, *words):
-    return [line for line in lines if line.startswith(words)]
 
 
 def writes(site, name):
@@ -29,6 +24,7 @@ def count(site, name):
     return len(read_list(site.has(name)[0], name))
 
 
+@case
 def gone_cpus():
     """One whose only CPU goes runs on the pool until there is room; a newcomer has its CPU at once, and nobody else is touched."""
     site = Site()
@@ -53,6 +49,7 @@ def gone_cpus():
     check("at a start as well", (status, len(of(lines, "waits x")), site.has("x", "y", "n")), (1, 1, ["0,4,6-7", "1-2", "3"]))
 
 
+@case
 def detour():
     """Who keeps none of his CPUs has the reserved one between his two writes, though his new ones are free, and others are written there:
     first each gives back, then each gets. Who keeps one stays on it."""
@@ -76,6 +73,7 @@ def detour():
     check("writes of others between", (site.log(), agent.end()[0]), (["a 0", "b 2", "c 0", "a 5", "b 2,6", "c 7"], 0))
 
 
+@case
 def among_several():
     """Of those who are short the youngest waits, and the others keep what they have."""
     site = Site()
@@ -91,6 +89,7 @@ def among_several():
     check("the youngest waits", (len(of(lines, "waits c")), site.has("a", "b"), writes(site, "a"), agent.end()[0]), (1, ["1", "2"], [], 0))
 
 
+@case
 def limits():
     """A limit that changes is told as it is: no end, no way by the reserved CPU, and the CPUs that are kept."""
     site = Site()
@@ -122,6 +121,7 @@ def limits():
     check("room", (has, [status, *agent.lines[-20:], rest] if status else []), (["1-7"], []))
 
 
+@case
 def kept_place():
     """One whose limit changed is still older than those that came behind it; a restart finds a lowered one with more than it asks for."""
     site = Site()
@@ -142,6 +142,7 @@ def kept_place():
     check("the younger one waits", (of(lines, "waits")[0].split(":")[0], count(site, "a"), agent.end()[0]), ("waits b", 3, 0))
 
 
+@case
 def other_configs():
     """A config by which one is pinned, is shared, or is refused."""
     site = Site()
@@ -163,6 +164,7 @@ def other_configs():
     check("it stays as it was", (site.has("a", "s"), site.log(), agent.end()[0]), (["0-3,6-7", "4-5"], [], 1))
 
 
+@case
 def updated_groups():
     """What crun update and podman update leave: cpu.max and cpuset.mems of the group, while the config says what it did."""
     site = Site({"nodes": ["0-3", "4-7"], "distances": [[10, 21], [21, 10]], "reserved": "0"})
@@ -193,6 +195,7 @@ def updated_groups():
     check("a restart has the same", (status, of(lines, "hold", "drift", "update"), site.has("db"), site.file("numarun/db", "cpuset.mems")), (0, [], ["4-5"], "1"))
 
 
+@case
 def unseen():
     """A config, or the whole folder, that can't be seen for a while ends nobody who has a process; who has none has ended."""
     site = Site()
@@ -217,6 +220,7 @@ def unseen():
     agent.end()
 
 
+@case
 def unseen_at_the_start():
     """The same where no agent ran meanwhile: nobody gets what one has who can't be seen, and the others go on."""
     site = Site()
@@ -242,6 +246,7 @@ def unseen_at_the_start():
     check("b has what it names, and a others", (site.has("b"), count(site, "a"), site.has("c"), agent.end()), (["1-2"], 2, ["3"], (0, [])))
 
 
+@case
 def unseen_without_an_id():
     """The same where it is not known any more who that was: there is no plan until it can be seen, or has ended."""
     site = Site()
@@ -260,41 +265,35 @@ def unseen_without_an_id():
     check("b has what it names, and a others", site.has("a", "b"), ["3-4", "1-2"])
 
 
-PROXY = """#!/usr/bin/env python3
-import os, subprocess, sys, time
-run = subprocess.Popen([os.environ["IN_FOLDERS"], *sys.argv[1:]], stdin=subprocess.PIPE, close_fds=False)
-for line in sys.stdin.buffer:
-    hides = line.startswith(b"adopt a ") and not os.path.exists("{away}.once")
-    if hides:
-        open("{away}.once", "w").close()
-        os.rename("{folder}", "{away}")
-    run.stdin.write(line)
-    run.stdin.flush()
-    if hides:
-        time.sleep(0.5)
-        os.rename("{away}", "{folder}")
-run.stdin.close()
-run.wait()
+HIDES = """
+hides = line.startswith(b"adopt a ") and not os.path.exists(f"{away}.once")
+if hides:
+    open(f"{away}.once", "w").close()
+    os.rename(folder, away)
+"""
+SHOWS = """
+if hides:
+    time.sleep(0.5)
+    os.rename(away, folder)
 """
 
 
+@case
 def away_for_a_moment():
     """The copy of a config is away just when numarun reads it: it is told of again, and nobody gets what it has meanwhile."""
     site = Site()
     site.come("a", 2)
     site.run()
     site.come("b", "1-2")
-    with open(site.at("proxy"), "w") as file:
-        file.write(PROXY.format(folder=site.at("work/bundles/told/a"), away=site.at("away")))
-    os.chmod(site.at("proxy"), 0o755)
-    os.environ["IN_FOLDERS"] = IN_FOLDERS
-    status, lines = site.run("--program", site.at("proxy"), rounds="8")
+    words = site.stand_in(HIDES, SHOWS, folder=site.at("work/bundles/told/a"), away=site.at("away"))
+    status, lines = site.run(*words, rounds="8")
     check("said and told again", (status, of(lines, "absent", "adopt")), (0, [f"absent a: {site.at('g/a')}: can't be read", f"adopt a {site.at('g/a')} 1-2"]))
     check("once it is told", site.has("a", "b"), ["3-4", "1-2"])
     log = site.log()
     check("nobody had it meanwhile", [line for line in log[:log.index("b 1-2")] if line.startswith("a ")][-1:], ["a 0"])
 
 
+@case
 def late_write():
     """A container came back under its id while a plan was handed over, so that its new group was written for the one before, and its config
     is not there yet: nobody shares these CPUs with it."""
@@ -316,6 +315,7 @@ def late_write():
     check("once it is told", (count(site, "a"), site.has("b"), agent.end()[0]), (1, ["1-2"], 0))
 
 
+@case
 def no_work():
     """A group that can't be written asks for no plan again and again, and is tried at growing pauses."""
     site = Site()
@@ -339,6 +339,7 @@ def no_work():
     check("tries in four seconds, and plans", (2 <= tries <= 8, figures["numarun_plans_total"]), (True, "1"))
 
 
+@case
 def drift():
     """What others write is written over again, once a look, and nobody else notices; at a container's own restart there is none."""
     site = Site({"nodes": ["0-3", "4-7"], "distances": [[10, 21], [21, 10]], "reserved": "0"})
@@ -370,6 +371,7 @@ def drift():
     check("no drift at a restart", (status, of(rest, "drift")), (0, []))
 
 
+@case
 def machines():
     """A machine that is not just as in its file: a CPU more, a reserved one that is off, a partition beside. The agent goes on, and starts."""
     site = Site({"nodes": ["0-7"], "distances": [[10]], "reserved": "0-1"})
@@ -403,6 +405,7 @@ def machines():
     check("nodes that the file has not", site.run()[0], 0)
 
 
+@case
 def no_reserved():
     """All reserved CPUs are off: another core is reserved, and those who run keep what they have."""
     site = Site({"nodes": ["0-7"], "distances": [[10]], "reserved": "7"})
@@ -424,6 +427,7 @@ def no_reserved():
     check("it is back", (site.has("a", "s"), agent.end()[0]), (["2-3", "0-1,4-7"], 0))
 
 
+@case
 def one_group():
     """Two ids whose configs name one group: the second one is not told."""
     site = Site()
@@ -435,6 +439,7 @@ def one_group():
     check("the first one", site.file("pod"), "1")
 
 
+@case
 def least_room():
     """One that waits and takes fewer gets fewer where these fit, and all of them later."""
     site = Site()
@@ -456,6 +461,7 @@ def least_room():
     check("and all", (count(site, "flex"), agent.end()[0]), (4, 0))
 
 
+@case
 def not_yet():
     """What a runtime is in the midst of making is called absent at the second look, and not at the first; or else at the end."""
     site = Site()
@@ -467,6 +473,7 @@ def not_yet():
     check("at the end", (status, of(said, "absent")), (1, [f"absent ghost: {site.at('root/numarun/ghost')}: no such group"]))
 
 
+@case
 def bounded_certificates():
     """The oldest certificates go where there are more than are kept."""
     site = Site()
@@ -483,11 +490,3 @@ def bounded_certificates():
     site.run("--certificates", site.at("kept"))
     kept = [name for name in os.listdir(site.at("kept")) if name.startswith("2020")]
     check("and 256 MiB", (kept, len(os.listdir(site.at("kept")))), ([], 3))
-
-
-PARTS = (gone_cpus, detour, among_several, limits, kept_place, other_configs, updated_groups, unseen, unseen_at_the_start, unseen_without_an_id, away_for_a_moment, late_write, no_work, drift, machines, no_reserved,
-         one_group, least_room, not_yet, bounded_certificates)
-for part in PARTS:
-    if not sys.argv[1:] or part.__name__ in sys.argv[1:]:
-        part()
-end("numarun-agent where something changes")

@@ -8,7 +8,11 @@ from typing import Dict, List, Optional
 
 from sites import IN_FOLDERS, Site
 from numarun_host import agent, configuration
-from trial import check, end, refuses, told
+from trial import case, check, refuses, told
+
+if configuration.library_of_toml() is None:
+    print("--config: passed over, as there is none: tomllib, or python3-tomli")
+    sys.exit(0)
 
 SAID = """# of a test
 machine = "{machine}"
@@ -68,6 +72,7 @@ def words(path: str, *more: str) -> Dict[str, object]:
     return vars(agent.words_of(["--config", path, *more]))
 
 
+@case
 def as_if_said() -> None:
     """The same words, and an agent that works by them; what is said beside them counts more, and lists add."""
     site = Site()
@@ -93,6 +98,7 @@ def as_if_said() -> None:
     check("check-config", (status, out, err), (0, f"{site.at('machine.json')}: 8 CPUs on 1 nodes, reserved 0, and 0 are left to the pool\n", ""))
 
 
+@case
 def refused() -> None:
     """With the file, the key and the reason, by check-config too."""
     site = Site()
@@ -109,6 +115,7 @@ def refused() -> None:
     check("words that go with others", told("numarun-agent", site.at("machine.json"), "--config", written(site, 'rest = "x"'))[0], 2)
 
 
+@case
 def by_which_library() -> None:
     """Python's own from 3.11 on, Debian's tomli before, or a line that says what to install."""
     site = Site()
@@ -129,18 +136,10 @@ def by_which_library() -> None:
             sys.modules[name] = module  # type: ignore[assignment]
 
 
+@case
 def each_option() -> None:
     """Each option of the help can be said by a file, but for those of one run."""
     parser = agent.parser_of_words()
     names: List[str] = [line.split()[0].strip(",") for line in parser.format_help().splitlines() if line.startswith("  --")]
     check("options", len(names) > 20, True)
     check("those that no file can say", sorted(name for name in names if parser.action(name[2:]) is None), ["--config", "--release", "--rounds", "--version"])
-
-
-if configuration.library_of_toml() is None:
-    print("--config: passed over, as there is none: tomllib, or python3-tomli")
-    sys.exit(0)
-for part in (as_if_said, refused, by_which_library, each_option):
-    if not sys.argv[1:] or part.__name__ in sys.argv[1:]:
-        part()
-end("numarun-agent --config")

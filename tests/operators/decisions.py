@@ -1,6 +1,7 @@
 """Tries what the agent decides, without a process: whatever comes in whatever order over a plain model of the kernel, of a watched folder and
-of numarun. `decisions.py [CASES]`. Containers come, go and come back, configs flip, break and can't be had, CPUs flap, writes fail, the folder
-is away, others write, all of it also between any two commands; and the agent is killed at any of them.
+of numarun (model.py). Containers come, go and come back, some with CPUs that their runtimes gave them, configs flip, break and can't be had,
+CPUs flap, writes fail, the folder is away, others write, all of it also between any two commands; and the agent is killed at any of them.
+`decisions.py [CASES [SEED]]` draws longer cases than the test does.
 
 - No container with a process is given up, and nobody's processes are ended.
 - Who requests CPUs without a reserved one has them for itself, after each write.
@@ -13,29 +14,21 @@ from __future__ import annotations
 import json
 import os
 import random
+import subprocess
 import sys
 import tempfile
 from collections import Counter
 from typing import Optional
 
-from trial import check, end
-
-try:
-    import hypothesis
-except ImportError:  # Debian's, where another Python comes first
-    if sys.executable == "/usr/bin/python3" or not os.path.exists("/usr/lib/python3/dist-packages/hypothesis"):
-        print("decisions: passed over, as there is no hypothesis and python3-hypothesis can't be installed")
-        sys.exit(0)
-    os.execv("/usr/bin/python3", ["/usr/bin/python3", "-B", *sys.argv])
-from hypothesis import strategies
+from trial import check, failed, long_case
 from model import RESERVED, Agent, Choices, Killed, World
 from numarun_host.ledger import CONTAINER_TOPICS, State
 from numarun_host.machine import Machine
 
-CASES = int(sys.argv[1]) if len(sys.argv) > 1 else 10_000
-SHORT = CASES * 9 // 10  # so many are made by hypothesis, which makes a case that fails as short as it can
+SHORT = int(os.environ.get("CASES", "3000"))  # drawn cases of each case below
+LONG = SHORT // 6
 SEED = 20261128
-LOOKS = 40  # in which who can be served is served: pauses of what failed have doubled before
+LOOKS = 12  # in which who can be served is served: at the longest pause of what failed before one is tried again at the second look
 
 
 def machine() -> Machine:
@@ -134,31 +127,80 @@ def fault_of(case: bytes) -> Optional[str]:
     return world.wrong[0] if world.wrong else None
 
 
-@hypothesis.seed(SEED)
-@hypothesis.settings(max_examples=max(SHORT, 1), deadline=None, database=None, suppress_health_check=list(hypothesis.HealthCheck))
-@hypothesis.given(strategies.binary(max_size=400))
-def whatever_comes(case: bytes) -> None:
-    fault = fault_of(case)
-    assert fault is None, (fault, case)
+def short_days(count: int, seed: int) -> str:
+    """Cases that hypothesis makes, which makes one that fails as short as it can; the fault of that."""
+    try:
+        import hypothesis
+    except ImportError:  # Debian's, where another Python comes first
+        return by_debians_python(count, seed)
+
+    few = "CASES" in os.environ  # as where mutants are tried: then no fault is made short
+    phases = [hypothesis.Phase.generate] if few else [hypothesis.Phase.generate, hypothesis.Phase.shrink]
+
+    @hypothesis.seed(seed)
+    @hypothesis.settings(max_examples=count, deadline=None, database=None, suppress_health_check=list(hypothesis.HealthCheck), phases=phases)
+    @hypothesis.given(hypothesis.strategies.binary(max_size=400))
+    def whatever_comes(drawn: bytes) -> None:
+        fault = fault_of(drawn)
+        assert fault is None, (fault, drawn)
+
+    try:
+        whatever_comes()
+    except AssertionError as why:
+        return str(why)
+    return ""
 
 
-def long_days(count: int) -> Optional[str]:
+def by_debians_python(count: int, seed: int) -> str:
+    """The same by Debian's Python, if that has hypothesis."""
+    if sys.executable == "/usr/bin/python3" or not os.path.exists("/usr/lib/python3/dist-packages/hypothesis"):
+        print("decisions: passed over, as there is no hypothesis and python3-hypothesis can't be installed")
+        return ""
+    words = f"import decisions; fault = decisions.short_days({count}, {seed}); print(fault, end='')"
+    here = os.path.dirname(os.path.abspath(__file__))
+    ran = subprocess.run(["/usr/bin/python3", "-B", "-c", words], cwd=here, stdout=subprocess.PIPE, check=True)
+    return ran.stdout.decode()
+
+
+def long_days(count: int, seed: int) -> str:
     """Longer cases than hypothesis makes, whatever they are; the first fault, with its case."""
-    chance = random.Random(SEED)
+    chance = random.Random(seed)
     for _ in range(count):
-        case = bytes(chance.randrange(256) for _ in range(chance.choice((100, 300, 1000))))
-        fault = fault_of(case)
+        drawn = bytes(chance.randrange(256) for _ in range(chance.choice((100, 300, 1000))))
+        fault = fault_of(drawn)
         if fault:
-            return f"{fault}: {case!r}"
-    return None
+            return f"{fault}: {drawn!r}"
+    return ""
+
+
+@long_case
+def short() -> None:
+    check("short cases", short_days(SHORT, SEED), "")
+
+
+@long_case
+def more_short() -> None:
+    check("short cases", short_days(SHORT, SEED + 1), "")
+
+
+@long_case
+def other_short() -> None:
+    check("short cases", short_days(SHORT, SEED + 2), "")
+
+
+@long_case
+def long() -> None:
+    check("long cases", long_days(LONG, SEED), "")
+
+
+@long_case
+def other_long() -> None:
+    check("long cases", long_days(LONG, SEED + 1), "")
 
 
 if __name__ == "__main__":
-    try:
-        whatever_comes()
-        fault = long_days(CASES - SHORT) or ""
-    except AssertionError as why:
-        fault = str(why)
-    check("what is decided", fault, "")
-    print(f"what is decided: {CASES} cases, {CASES - SHORT} of them long, seed {SEED}")
-    end("numarun-agent's decisions")
+    asked = [int(word) for word in sys.argv[1:]]
+    cases, seed = asked + [10_000, SEED][len(asked):]
+    check("what is decided", long_days(cases, seed), "")
+    print(f"what is decided: {cases} long cases, seed {seed}")
+    sys.exit(1 if failed else 0)

@@ -6,10 +6,9 @@ import os
 import re
 import signal
 import subprocess
-import sys
 import time
 
-from sites import IN_FOLDERS, QUOTA, Open, Site
+from sites import IN_FOLDERS, QUOTA, Open, Site, of
 from numarun_host.devices import node_of_device
 from numarun_host.ledger import Ledger, Settings, Sighting
 from numarun_host.machine import Machine
@@ -17,37 +16,16 @@ from numarun_host.names import Names
 from numarun_host.placing import choose_home
 from numarun_host.seen import Group, Look, Told
 from numarun_host.telling import Turn
-from trial import check, command, end, refuses, told
-
-
-def of(lines, *words):
-    return [line for line in lines if line.startswith(words)]
-
-
-def proxied(site, text):
-    """A program before numarun, which sees each line first."""
-    with open(site.at("proxy"), "w") as file:
-        file.write(f"#!{sys.executable}\nimport os, subprocess, sys, time\nrun = subprocess.Popen(['{IN_FOLDERS}', *sys.argv[1:]], "
-                   f"stdin=subprocess.PIPE, stdout=subprocess.PIPE, close_fds=False)\n{text}")
-    os.chmod(site.at("proxy"), 0o755)
-    return "--program", site.at("proxy")
+from trial import case, check, command, long_case, refuses, told
 
 
 BETWEEN = """
-for line in sys.stdin.buffer:
-    if line.startswith(b"create s0 ") and os.path.exists("{next}"):
-        os.rename("{next}", "{config}")
-    run.stdin.write(line)
-    run.stdin.flush()
-    while True:
-        answer = run.stdout.readline()
-        sys.stdout.buffer.write(answer)
-        sys.stdout.flush()
-        if answer == b"end\\n" or not answer.startswith((b"plan ", b"short ", b"hold ", b"pool ", b"member ")):
-            break
+if line.startswith(b"create s0 ") and os.path.exists(new):
+    os.rename(new, config)
 """
 
 
+@case
 def between():
     """A config by which one is pinned comes between the agent's read and numarun's: it waits, as it asks by then."""
     site = Site({"nodes": ["0-3"], "distances": [[10]], "reserved": "0"})
@@ -56,12 +34,13 @@ def between():
     site.come("s0")
     site.come("next", 2, group=False)
     os.rename(site.at("g/next"), site.at("next"))
-    words = proxied(site, BETWEEN.format(next=site.at("next/config.json"), config=site.at("g/s0/config.json")))
+    words = site.stand_in(BETWEEN, new=site.at("next/config.json"), config=site.at("g/s0/config.json"))
     status, lines = site.run(*words, rounds="4")
     check("it goes on", (status, site.has("big", "s0")), (1, ["1-3", "0"]))
     check("and it waits", [line.split(":")[0] for line in of(lines, "waits")], ["waits s0"])
 
 
+@case
 def nothing_left():
     """What the agent keeps of a container goes with it, also of one that was refused, or that waited."""
     site = Site()
@@ -86,6 +65,7 @@ def nothing_left():
     check("links", (sorted(os.listdir(site.at("work/tree/numarun"))), agent.end()[0]), (["b", "last"], 0))
 
 
+@case
 def slow_pool():
     """A slow command of --pool keeps no hook waiting, and none is run beside another; one that does not end is ended."""
     site = Site()
@@ -107,26 +87,18 @@ def slow_pool():
 
 
 STANDING = """
-for line in sys.stdin.buffer:
-    if line.startswith(b"create b"):
-        time.sleep(600)
-    run.stdin.write(line)
-    run.stdin.flush()
-    while True:
-        answer = run.stdout.readline()
-        sys.stdout.buffer.write(answer)
-        sys.stdout.flush()
-        if answer == b"end\\n" or not answer.startswith((b"plan ", b"short ", b"hold ", b"pool ", b"member ")):
-            break
+if line.startswith(b"create b"):
+    time.sleep(600)
 """
 
 
+@case
 def standing_still():
     """A program that answers nothing any more: SIGTERM is heard all the same, and without one the agent ends after its patience."""
     for more, number, says in (((), signal.SIGTERM, "where it is to end"), (("--patience", "2"), None, "in 2 s")):
         site = Site()
         site.come("a", 2)
-        words = command("numarun-agent", *site.words(*proxied(site, STANDING), *more))
+        words = command("numarun-agent", *site.words(*site.stand_in(STANDING), *more))
         run = subprocess.Popen(words, stdin=subprocess.DEVNULL, stdout=subprocess.PIPE, stderr=subprocess.PIPE, text=True)
         while "done" not in run.stdout.readline():
             pass
@@ -140,30 +112,19 @@ def standing_still():
 
 
 NO_PIDS = """
-for line in sys.stdin.buffer:
-    if line.startswith(b"create b") and not os.path.exists("{once}"):
-        open("{once}", "w").close()
-        sys.stdout.write("refused E45 NoPids\\n")
-        sys.stdout.flush()
-        continue
-    run.stdin.write(line)
-    run.stdin.flush()
-    while True:
-        answer = run.stdout.readline()
-        sys.stdout.buffer.write(answer)
-        sys.stdout.flush()
-        if answer == b"end\\n" or not answer.startswith((b"plan ", b"short ", b"hold ", b"pool ", b"member ")):
-            break
-run.stdin.close()
-run.wait()
+if line.startswith(b"create b") and not os.path.exists(once):
+    open(once, "w").close()
+    print("refused E45 NoPids", flush=True)
+    continue
 """
 
 
+@case
 def no_pids():
     """A run that has no pids left is followed by another one, which takes up all that is there."""
     site = Site()
     site.come("a", 2)
-    agent = Open(site, *proxied(site, NO_PIDS.format(once=site.at("once"))))
+    agent = Open(site, *site.stand_in(NO_PIDS, once=site.at("once")))
     agent.until("done")
     site.log()
     site.come("b", 1)
@@ -171,6 +132,7 @@ def no_pids():
     check("another run", (of(lines, "adopt"), site.has("a", "b"), "a 0" in site.log(), agent.end()[0]), ([f"adopt a {site.at('g/a')} 1-2"], ["1-2", "3"], False, 0))
 
 
+@case
 def told_to_end():
     """Who has no room is no fault of a unit that is stopped; what is refused is."""
     site = Site()
@@ -189,6 +151,7 @@ def told_to_end():
     check("what is refused", agent.end()[0], 1)
 
 
+@case
 def two_folders():
     """One id in two folders: the one that is told already goes on, and the other one is named."""
     site = Site()
@@ -210,6 +173,7 @@ def two_folders():
     check("once it has ended", (site.file("other/db"), agent.end()[0]), ("1", 0))
 
 
+@case
 def silent_folders():
     """A watched folder that is not there, or has no containers, is named once."""
     site = Site()
@@ -224,6 +188,7 @@ def silent_folders():
     check("and it goes on", (site.has("a", "b"), agent.end()[0]), (["1", "2"], 0))
 
 
+@case
 def long_ids():
     """An id of 64 digits is shortened, and stands behind the name that a runtime knows."""
     site, ids = Site(), ["9" * 12 + "a" * 52, "8" * 12 + "b" * 52, "7" * 12 + "c" * 52]
@@ -246,6 +211,7 @@ def long_ids():
     check("in the log", (status, of(lines, "create", "hold")), (0, [f"create 777777777777 {site.at('g', ids[2])}", "hold 777777777777 1-2"]))
 
 
+@long_case
 def stopped():
     """One that its runtime calls stopped gives its CPUs back, and gets some anew when it has a process again."""
     site = Site()
@@ -278,10 +244,12 @@ def stopped():
     check("once it runs again", (re.fullmatch(r"[\d,-]+", site.has("db")[0]) is not None, "0" in site.has("db")[0].split(","), agent.end()[0]), (True, False, 0))
 
 
+@case
 def no_pause():
     check("--pause 0", told("numarun-agent", "machine.json", "--pause", "0")[0], 2)
 
 
+@case
 def odd_configs():
     """Configs that no runtime writes: each is named with its reason, and the others go on."""
     site = Site()
@@ -303,6 +271,7 @@ def odd_configs():
     check("each is named", {"nul", "large", "deep", "path", "surrogate"} <= named, True)
 
 
+@case
 def pool_floor():
     """By default newcomers wait rather than bring the pool below two cores, or a tenth; who had CPUs before keeps them."""
     site = Site()
@@ -333,6 +302,7 @@ def pool_floor():
         check(f"--pool-least {text}", told("numarun-agent", "machine.json", f"--pool-least={text}")[0], 2)
 
 
+@case
 def wishes():
     """What a container says of itself by its environment, where its runtime has no annotations."""
     site = Site()
@@ -347,6 +317,7 @@ def wishes():
     check("NUMARUN_LEAST", (status, len(of(lines, "fewer flex: 2 of 4")), site.has("flex")), (1, 1, ["6-7"]))
 
 
+@case
 def near_a_device():
     """The home of one that names a device is the node of that."""
     folder = Site().folder
@@ -363,6 +334,7 @@ def near_a_device():
     check("nodes of devices", found, {"eth0": 1, "nvme0n1": 2, "0000:3b:00.0": 3, "lo0": None, "eth9": None, "../eth0": None, "": None, "a/b": None})
 
 
+@case
 def words():
     """Words of a file, a configuration that is looked at, and the version."""
     site = Site()
@@ -376,11 +348,3 @@ def words():
     check("the version", told("numarun-agent", "--version", "--program", IN_FOLDERS), (0, version, ""))
     check("release without a tree", told("numarun-agent", "release")[0], 2)
     check("release", told("numarun-agent", "release", "--cgroup", site.at("root"), "--work", site.at("work")), (0, "", ""))
-
-
-PARTS = (between, nothing_left, slow_pool, standing_still, no_pids, told_to_end, two_folders, silent_folders, long_ids, stopped, no_pause, odd_configs, pool_floor, wishes,
-         near_a_device, words)
-for part in PARTS:
-    if not sys.argv[1:] or part.__name__ in sys.argv[1:]:
-        part()
-end("numarun-agent at its edges")

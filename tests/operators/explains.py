@@ -9,15 +9,14 @@ import random
 import re
 import shutil
 
-from trial import EXAMPLES, bad_files, bad_output, check, end, piped, refuses, told, words_and_help
+from trial import EXAMPLES, PROGRAM, bad_files, bad_output, case, check, long_case, piped, refuses, scratch, told, words_and_help
 from numarun_host import answers, cpus as lists, explain
 from numarun_host.machine import Machine
 from numarun_host.program import Run
 
-PROGRAM, SCRATCH = os.environ["PROGRAM"], os.environ["SCRATCH"]
 MACHINE = os.path.join(EXAMPLES, "machines", "two-socket.json")
 ANSWERS = os.path.join(EXAMPLES, "scripts", "before-and-after.answers")
-SMALL = os.path.join(SCRATCH, "small.json")
+SMALL = scratch("small.json")
 TINY = {"nodes": ["0-3", "4-7"], "distances": [[10, 21], [21, 10]], "reserved": "0"}
 
 # By hand. The machine is TINY; a holds 1-2, both near, b one near and one far, and c, which may have no others, the last near one.
@@ -105,7 +104,7 @@ each of these makes room by itself:
 for nobody: 3-7: offline, or on nobody's list
 """
 # The same certificates on a machine whose cores have two CPUs: their numbers are those of cores.
-CORES = os.path.join(SCRATCH, "cores.json")
+CORES = scratch("cores.json")
 PAIRS = {"nodes": ["0-3,8-11", "4-7,12-15"], "distances": [[10, 21], [21, 10]], "reserved": "0,8", "cores": [f"{k},{k + 8}" for k in range(8)], "offline": "11"}
 FAR_OF_CORES = """plan: total distance 102; far from home: CPUs of 1 container
 a: 2 CPUs, distance 20: 3,11: all near; one more core for it would add 42 or
@@ -154,6 +153,7 @@ WRONG = [
 ]
 
 
+@case
 def by_hand():
     json.dump(TINY, open(SMALL, "w"))
     for name, text, expected in [("far", FAR, FAR_TOLD), ("moved", MOVED, MOVED_TOLD), ("bound", BOUND, BOUND_TOLD), ("short", SHORT, SHORT_TOLD),
@@ -175,10 +175,10 @@ def by_hand():
 
 def run_of(machine, containers):
     """The answers where these containers are made and planned: pairs of a name and a CPU section."""
-    path, lines = os.path.join(SCRATCH, "m.json"), []
+    path, lines = scratch("m.json"), []
     json.dump(machine, open(path, "w"))
     for name, section in containers.items():
-        bundle = os.path.join(SCRATCH, "made", name)
+        bundle = scratch("made", name)
         os.makedirs(bundle, exist_ok=True)
         config = {"ociVersion": "1.0.2", "root": {"path": "r"}, "linux": {"resources": {"cpu": section}}}
         json.dump(config, open(os.path.join(bundle, "config.json"), "w"))
@@ -218,7 +218,7 @@ def random_case(random, threads):
 def plan_holds(machine, containers, found, random):
     """What is said of a plan: one more for a container, and one more CPU, or core, like another."""
     told, total = found.certificates[0], found.plans[0].total
-    of = Machine(os.path.join(SCRATCH, "m.json"))
+    of = Machine(scratch("m.json"))
     plan, threads = explain.Explained(told, of), of.threads
     for name in containers:
         least = int(re.search(r"would add ([0-9]+) or more", plan.one_more(name))[1])
@@ -296,7 +296,7 @@ def tried_out(count, seed, threads=1):
     chance, seen = random.Random(seed), {"far": 0, "short": 0, "alone": 0, "allow": 0, "together": 0, "more": 0}
     for at in range(count):
         machine, containers = random_case(chance, threads)
-        shutil.rmtree(os.path.join(SCRATCH, "made"), ignore_errors=True)
+        shutil.rmtree(scratch("made"), ignore_errors=True)
         of, found = run_of(machine, containers)
         if found is None:
             continue
@@ -315,11 +315,12 @@ def tried_out(count, seed, threads=1):
     check(f"enough was seen: {seen}", min(seen.values()) >= 3, True)
 
 
+@case
 def large():
     """1,024 containers in a row, each with a CPU that the next one may have too, which are short of two CPUs. The first and the
     last can be ended: of one between, the two that are missing are not near enough to both its sides."""
     machine, rows = {"nodes": [f"{2048 * k}-{2048 * k + 2047}" for k in range(2)], "distances": [[10, 21], [21, 10]], "reserved": "0"}, []
-    path = os.path.join(SCRATCH, "large.json")
+    path = scratch("large.json")
     json.dump(machine, open(path, "w"))
     rows = [f"row c{k} 4 10:{max(1, 4 * k)}-{4 * k + 3},{4 * (k + 1) % 4096 or 1}" for k in range(1023)] + ["row c1023 5 10:4092-4095,1"]
     text = "\n".join(["numarun-certificate 1", *rows, *(f"short c{k}" for k in range(1024)), "end", ""])
@@ -328,26 +329,35 @@ def large():
     check("a large shortage", (status, [line for line in said if line in out.splitlines()], err), (0, said, ""))
 
 
-by_hand()
-tried_out(60, 1)
-tried_out(30, 7, threads=2)
-large()
-words_and_help("numarun-explain", "operators/numarun-explain examples/machines/two-socket.json")
-bad_files("numarun-explain", [], [ANSWERS])
-bad_files("numarun-explain", [MACHINE])
-bad_output("numarun-explain", MACHINE, ANSWERS)
-piped("numarun-explain", MACHINE, ANSWERS)
-refuses("numarun-explain", MACHINE, text="", says="standard input: line 1: the answers have no certificate: put the command `certificate`")
-refuses("numarun-explain", MACHINE, text=FAR + "plan total 10\nhold a 1\npool 0\nend\n", says="line 11: no certificate stands behind this outcome")
-refuses("numarun-explain", MACHINE, text=FAR.replace("end\n", ""), says="line 10: the certificate has no end")
-refuses("numarun-explain", SMALL, text=FAR.replace("4-7", "4-8"), says="line 2: the machine has no CPU 8")
-refuses("numarun-explain", CORES, text=FAR.replace("4-7", "4-8"), says="line 2: CPU 8 is the lowest of no core")
-refuses("numarun-explain", SMALL, text=FAR.replace("10:2", "10-2"), says="line 4: '10-2' is no offer")
-refuses("numarun-explain", SMALL, text=FAR.replace("row c", "row b"), says="line 4: 'row b 1 10:2' is no line of a certificate")
-for old, new, says in [("21:4-5", "21:3-5", "line 3: CPU 3 stands twice"), ("price 11 1-3", "price 11 1-3\nprice 0 3", "line 9: CPU 3 stands twice"),
-                       ("hold b", "hold a", "line 6: 'hold a 1,4 21' is no line"), ("total 51", "total 51 moves 0", "line 9: 'total 51 moves 0' is no line")]:
-    refuses("numarun-explain", SMALL, text=FAR.replace(old, new), says=says)
-refuses("numarun-explain", SMALL, text=SHORT.replace("short b", "short a"), says="line 6: 'short a' is no line of a certificate")
-refuses("numarun-explain", SMALL, text=FAR.replace("price 11", "price x"), says="line 8: 'x' is no number")
-refuses("numarun-explain", SMALL, "--only", "d", text=FAR, says="line 1: the certificate has no row 'd'")
-end("numarun-explain")
+@long_case
+def tried_out_by_chance():
+    tried_out(60, 1)
+
+
+@case
+def tried_out_with_cores():
+    tried_out(30, 7, threads=2)
+
+
+@case
+def refusals():
+    for path, machine in ((SMALL, TINY), (CORES, PAIRS)):
+        json.dump(machine, open(path, "w"))
+    words_and_help("numarun-explain", "operators/numarun-explain examples/machines/two-socket.json")
+    bad_files("numarun-explain", [], [ANSWERS])
+    bad_files("numarun-explain", [MACHINE])
+    bad_output("numarun-explain", MACHINE, ANSWERS)
+    piped("numarun-explain", MACHINE, ANSWERS)
+    refuses("numarun-explain", MACHINE, text="", says="standard input: line 1: the answers have no certificate: put the command `certificate`")
+    refuses("numarun-explain", MACHINE, text=FAR + "plan total 10\nhold a 1\npool 0\nend\n", says="line 11: no certificate stands behind this outcome")
+    refuses("numarun-explain", MACHINE, text=FAR.replace("end\n", ""), says="line 10: the certificate has no end")
+    refuses("numarun-explain", SMALL, text=FAR.replace("4-7", "4-8"), says="line 2: the machine has no CPU 8")
+    refuses("numarun-explain", CORES, text=FAR.replace("4-7", "4-8"), says="line 2: CPU 8 is the lowest of no core")
+    refuses("numarun-explain", SMALL, text=FAR.replace("10:2", "10-2"), says="line 4: '10-2' is no offer")
+    refuses("numarun-explain", SMALL, text=FAR.replace("row c", "row b"), says="line 4: 'row b 1 10:2' is no line of a certificate")
+    for old, new, says in [("21:4-5", "21:3-5", "line 3: CPU 3 stands twice"), ("price 11 1-3", "price 11 1-3\nprice 0 3", "line 9: CPU 3 stands twice"),
+                           ("hold b", "hold a", "line 6: 'hold a 1,4 21' is no line"), ("total 51", "total 51 moves 0", "line 9: 'total 51 moves 0' is no line")]:
+        refuses("numarun-explain", SMALL, text=FAR.replace(old, new), says=says)
+    refuses("numarun-explain", SMALL, text=SHORT.replace("short b", "short a"), says="line 6: 'short a' is no line of a certificate")
+    refuses("numarun-explain", SMALL, text=FAR.replace("price 11", "price x"), says="line 8: 'x' is no number")
+    refuses("numarun-explain", SMALL, "--only", "d", text=FAR, says="line 1: the certificate has no row 'd'")

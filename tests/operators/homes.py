@@ -1,13 +1,12 @@
 """Tries the homes that the agent and numarun-dry-run give to containers which name no nodes of memory, and containers that are never moved."""
 
 import os
-import sys
 
 from sites import IN_FOLDERS, QUOTA, Open, Site
 from numarun_host import homes
 from numarun_host.cpus import read_list
 from numarun_host.machine import Machine
-from trial import check, end, told
+from trial import case, check, told
 
 # Four nodes of two cores with two CPUs each; 0 is at 15 from 1, and 2 from 3.
 FOUR = {"nodes": ["0-3", "4-7", "8-11", "12-15"], "distances": [[10, 15, 30, 30], [15, 10, 30, 30], [30, 30, 10, 15], [30, 30, 15, 10]],
@@ -23,12 +22,13 @@ def memory(site, *free):
             file.write(f"Node {node} MemTotal:  99999999 kB\nNode {node} MemFree:  {bytes // 1024} kB\n")
 
 
+@case
 def chosen():
     """By hand: the fewest nodes, near each other, with little more than is asked for; memory decides where it is short."""
     site = Site(FOUR)
     machine = Machine(site.at("machine.json"))
     free = machine.present - machine.reserved
-    for count, limit, told, taken, expected in [
+    for count, limit, free_gib, taken, expected in [
         (2, 0, (9, 9, 9, 9), "", {0}),       # node 0 has one core left: it fits best
         (4, 0, (9, 9, 9, 9), "", {1}),       # two cores: 1, 2 and 3 are alike
         (4, 0, (9, 1, 9, 9), "", {2}),       # and of these the one with the most memory, the lowest of them
@@ -41,10 +41,10 @@ def chosen():
         (16, 0, (9, 9, 9, 9), "", None),     # no room anywhere
         (2, 40, (9, 9, 9, 9), "", None),
     ]:
-        memory(site, *(GIB * gib for gib in told))
+        memory(site, *(GIB * gib for gib in free_gib))
         config = {"linux": {"resources": {"memory": {"limit": limit * GIB}}}}
         found = homes.home_of(machine, config, count, free - read_list(taken, "taken"), homes.free_memory(site.at("nodes"), machine))
-        check(f"a home for {count} CPUs and {limit} GiB of {told} without {taken!r}", found, expected)
+        check(f"a home for {count} CPUs and {limit} GiB of {free_gib} without {taken!r}", found, expected)
     site = Site({"nodes": ["0-1", "2-3", "4-5", "6-7"], "distances": [[10 if a == b else 30 if {a, b} == {1, 2} else 20 for b in range(4)] for a in range(4)],
                  "reserved": "0"})
     spread = Machine(site.at("machine.json"))
@@ -53,6 +53,7 @@ def chosen():
     check("one that names its nodes", homes.home_of(machine, named, 2, free, homes.free_memory(site.at("nodes"), machine)), None)
 
 
+@case
 def kept():
     """A home is told with the copy of the config, kept across restarts, and no newcomer is given what is promised."""
     site = Site(TWO)
@@ -81,6 +82,7 @@ def kept():
     check("the end", agent.end()[0], 0)
 
 
+@case
 def none():
     """Without homes each CPU is as near as another, and all nodes are its memory."""
     site = Site(TWO)
@@ -95,6 +97,7 @@ def none():
     check("one that has its CPUs", ([line for line in lines if line.startswith("home")], site.has("x")), (["home x 1"], ["6-7"]))
 
 
+@case
 def later():
     """Who waits gets a home when there is room."""
     site = Site(TWO)
@@ -110,6 +113,7 @@ def later():
     check("its CPUs", (len(read_list(site.has("c")[0], "c")), site.file("numarun/c", "cpuset.mems"), agent.end()[0]), (3, "1", 0))
 
 
+@case
 def shown():
     """numarun-dry-run has the same homes."""
     site = Site(TWO)
@@ -139,6 +143,7 @@ def far_site():
     return site
 
 
+@case
 def staying():
     """One with the annotation is never moved, though it would be nearer elsewhere; where its CPU goes it gets another one."""
     site = far_site()
@@ -162,14 +167,9 @@ def staying():
     check("its CPU goes", (site.has("db")[0] != "4", len(read_list(site.has("db")[0], "db")), agent.end()[0]), (True, 1, 0))
 
 
+@case
 def staying_over_restarts():
     site = far_site()
     check("both are far", (site.run()[0], site.has("db", "other")), (0, ["4-5", "6-7"]))
     site.go("near")
     check("the other one comes home while no agent ran", (site.run()[0], site.has("db", "other")), (0, ["4-5", "1-2"]))
-
-
-for part in (chosen, kept, none, later, shown, staying, staying_over_restarts):
-    if not sys.argv[1:] or part.__name__ in sys.argv[1:]:
-        part()
-end("homes")

@@ -4,11 +4,10 @@ import json
 import os
 import signal
 import subprocess
-import sys
 import time
 
 from sites import Open, Site
-from trial import TOP, check, command, end, refuses, told, words_and_help
+from trial import TOP, case, check, command, refuses, told, words_and_help
 
 
 def state_of(site, name, **more):
@@ -36,6 +35,7 @@ def ended(process):
     return process.wait(), out, err
 
 
+@case
 def hooked():
     """A runtime's hook tells of a container, in the group that its process is in, and that it is gone."""
     site = Site()
@@ -65,6 +65,7 @@ def hooked():
     check("a wait without time", told("numarun-hook", site.at("told"), "--wait", "0", text=json.dumps(state))[0], 2)
 
 
+@case
 def answered():
     """A container begins when it has its CPUs, or when it is told that there is no place."""
     site = Site()
@@ -90,6 +91,7 @@ def answered():
     check("it ends", agent.end()[0], 1)
 
 
+@case
 def in_time():
     """Where nobody answers, the container is not told of, and its runtime does not start it; an agent that comes meanwhile answers."""
     site = Site()
@@ -111,6 +113,7 @@ def in_time():
     agent.end(signal.SIGTERM)
 
 
+@case
 def far_away():
     """A folder of the agent's with a longer name than a socket may have."""
     site = Site()
@@ -121,6 +124,7 @@ def far_away():
     agent.end(signal.SIGTERM)
 
 
+@case
 def status():
     """What the running agent knows: a table, and JSON."""
     site = Site()
@@ -139,9 +143,3 @@ def status():
     check("it runs", (known["running"], agent.end()[0]), (True, 0))
     os.remove(site.at("work/status.json"))
     refuses("numarun-agent", "status", "--agent", site.at("work/hooks"), says="no agent answers: Connection refused")
-
-
-for part in (hooked, answered, in_time, far_away, status):
-    if not sys.argv[1:] or part.__name__ in sys.argv[1:]:
-        part()
-end("numarun-hook")

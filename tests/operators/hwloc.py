@@ -5,7 +5,7 @@ import os
 import shutil
 import subprocess
 
-from trial import TOP, bad_files, bad_output, check, end, piped, refuses, told, words_and_help
+from trial import TOP, bad_files, bad_output, case, check, piped, refuses, told, words_and_help
 
 MACHINES = os.path.join(TOP, "tests", "operators", "machines")
 TWO_SOCKET = os.path.join(MACHINES, "two-socket.xml")
@@ -43,6 +43,7 @@ def with_cores(*cores):
     return open(TWO_SOCKET).read().replace('<object type="Package" os_index="0"', entries + '<object type="Package" os_index="0"', 1)
 
 
+@case
 def of_cores():
     pairs = [(k, k + 16) for k in range(16)]
     expected = json.load(open(os.path.join(TOP, "examples", "machines", "two-socket.json")))
@@ -62,6 +63,7 @@ def of_cores():
         refuses("numarun-describe hwloc", "--cores", *words, text=with_cores(*cores), says=says)
 
 
+@case
 def same_as_of_this_machine():
     if not shutil.which("lstopo"):
         print("hwloc: passed over, as there is no lstopo: what it tells of this machine")
@@ -73,43 +75,54 @@ def same_as_of_this_machine():
 
 
 FROM_ITSELF = ["node 2 is at 17 from itself", "node 16 is at 14 from itself", "left out, as no node has them: CPUs 4-7,20-23"]
-same_as_by_hand("two-socket", "0,16")
-same_as_by_hand("two-nodes-a-socket", "0-1,64-65")
-same_as_of_this_machine()
-of_cores()
-recorded("offline", said=["which `lstopo --disallowed` tells apart: CPUs 2,5,7-11,13-14"], nodes=["0-15"], distances=[[10]], reserved="0", offline="2,5,7-11,13-14")
-recorded("memory-and-a-hole", "--renumber", said=FROM_ITSELF,
-         nodes=["0-3", "16-19", ""], distances=[[10, 17, 17], [17, 10, 10], [14, 14, 10]], reserved="0", offline="")
-recorded("memory-and-a-hole", said=FROM_ITSELF + ["become nodes without CPUs: 1,3-15"], nodes=["0-3", "", "16-19"] + [""] * 14)
-recorded("memory-and-a-hole", "--renumber", "--cores", said=FROM_ITSELF, reserved="0", cores=["0", "1", "2", "3", "16", "17", "18", "19"])
-recorded("no-distances", "--reserved", "7", said=["it tells no distances"], nodes=["0-1", "2-3", "4-5", "6-7"], reserved="7",
-         distances=[[10 if a == b else 255 for b in range(4)] for a in range(4)], offline="")
 
-status, out, err = told("numarun-describe hwloc", text=NODE.format(online=LAST, all=LAST, node=127))
-check("the last node and CPU", (status, json.loads(out or "{}").get("nodes")), (0, [""] * 127 + ["4095"]))
 
-status, out, err = told("numarun-describe hwloc", text=ALLOWED.format(here="0f", node=""))
-check("a restricted shell", (status, json.loads(out)["nodes"], err.splitlines()), (0, ["0-3"], [
-    "numarun-describe: left out, as no node has them: CPUs 4-7",
-    "numarun-describe: offline, or not allowed to the shell that ran lstopo, which `lstopo --disallowed` tells apart: CPUs 4-7"]))
-status, out, err = told("numarun-describe hwloc", text=ALLOWED.format(here="3f", node=SECOND))
-check("a restricted shell and --disallowed", (status, json.loads(out)["nodes"], json.loads(out)["offline"], "not allowed the CPUs 4-5;" in err),
-      (0, ["0-3", "4-7"], "6-7", True))
+@case
+def read_off_by_hand():
+    same_as_by_hand("two-socket", "0,16")
+    same_as_by_hand("two-nodes-a-socket", "0-1,64-65")
 
-words_and_help("numarun-describe hwloc", "lstopo --disallowed --of xml | operators/numarun-describe hwloc")
-bad_files("numarun-describe hwloc", [])
-bad_output("numarun-describe hwloc", TWO_SOCKET)
-piped("numarun-describe hwloc", TWO_SOCKET)
-piped("numarun-describe host")
-refuses("numarun-describe hwloc", text='<?xml version="1.0" encoding="none"?><a/>', says="-: line 1: an unknown encoding")
-refuses("numarun-describe hwloc", text=open(TWO_SOCKET).read()[:700], says="-: line ")
-refuses("numarun-describe hwloc", text="<html/>", says="first object is no Machine")
-refuses("numarun-describe hwloc", TWO_SOCKET, "--reserved", "32", says="reserved CPUs that are not online: 32")
-refuses("numarun-describe hwloc", os.path.join(MACHINES, "offline.xml"), "--cores", says="--cores: no core is told of the CPUs")
-refuses("numarun-describe hwloc", TWO_SOCKET, "--reserved", "x", says="--reserved: 'x' is no CPU")
-refuses("numarun-describe hwloc", text=NODE.format(online="1", all="1", node=128), says="node 128: a machine file has nodes 0 to 127")
-refuses("numarun-describe hwloc", text=NODE.format(online="1", all="1", node="x"), says="NUMANode x: no os_index")
-refuses("numarun-describe hwloc", text=NODE.format(online="f...f", all="f...f", node=0), says="no finite bitmap")
-refuses("numarun-describe hwloc", text=NODE.format(online="1", all="1" + ",0x0" * 128, node=0), says="CPU 4096: a machine file has")
-refuses("numarun-describe hwloc", text=NODE.format(online="0", all="1", node=0), says="no CPU is online")
-end("numarun-describe hwloc")
+
+@case
+def recorded_machines():
+    recorded("offline", said=["which `lstopo --disallowed` tells apart: CPUs 2,5,7-11,13-14"], nodes=["0-15"], distances=[[10]], reserved="0", offline="2,5,7-11,13-14")
+    recorded("memory-and-a-hole", "--renumber", said=FROM_ITSELF,
+             nodes=["0-3", "16-19", ""], distances=[[10, 17, 17], [17, 10, 10], [14, 14, 10]], reserved="0", offline="")
+    recorded("memory-and-a-hole", said=FROM_ITSELF + ["become nodes without CPUs: 1,3-15"], nodes=["0-3", "", "16-19"] + [""] * 14)
+    recorded("memory-and-a-hole", "--renumber", "--cores", said=FROM_ITSELF, reserved="0", cores=["0", "1", "2", "3", "16", "17", "18", "19"])
+    recorded("no-distances", "--reserved", "7", said=["it tells no distances"], nodes=["0-1", "2-3", "4-5", "6-7"], reserved="7",
+             distances=[[10 if a == b else 255 for b in range(4)] for a in range(4)], offline="")
+
+
+@case
+def made_machines():
+    status, out, err = told("numarun-describe hwloc", text=NODE.format(online=LAST, all=LAST, node=127))
+    check("the last node and CPU", (status, json.loads(out or "{}").get("nodes")), (0, [""] * 127 + ["4095"]))
+
+    status, out, err = told("numarun-describe hwloc", text=ALLOWED.format(here="0f", node=""))
+    check("a restricted shell", (status, json.loads(out)["nodes"], err.splitlines()), (0, ["0-3"], [
+        "numarun-describe: left out, as no node has them: CPUs 4-7",
+        "numarun-describe: offline, or not allowed to the shell that ran lstopo, which `lstopo --disallowed` tells apart: CPUs 4-7"]))
+    status, out, err = told("numarun-describe hwloc", text=ALLOWED.format(here="3f", node=SECOND))
+    check("a restricted shell and --disallowed", (status, json.loads(out)["nodes"], json.loads(out)["offline"], "not allowed the CPUs 4-5;" in err),
+          (0, ["0-3", "4-7"], "6-7", True))
+
+
+@case
+def refusals():
+    words_and_help("numarun-describe hwloc", "lstopo --disallowed --of xml | operators/numarun-describe hwloc")
+    bad_files("numarun-describe hwloc", [])
+    bad_output("numarun-describe hwloc", TWO_SOCKET)
+    piped("numarun-describe hwloc", TWO_SOCKET)
+    piped("numarun-describe host")
+    refuses("numarun-describe hwloc", text='<?xml version="1.0" encoding="none"?><a/>', says="-: line 1: an unknown encoding")
+    refuses("numarun-describe hwloc", text=open(TWO_SOCKET).read()[:700], says="-: line ")
+    refuses("numarun-describe hwloc", text="<html/>", says="first object is no Machine")
+    refuses("numarun-describe hwloc", TWO_SOCKET, "--reserved", "32", says="reserved CPUs that are not online: 32")
+    refuses("numarun-describe hwloc", os.path.join(MACHINES, "offline.xml"), "--cores", says="--cores: no core is told of the CPUs")
+    refuses("numarun-describe hwloc", TWO_SOCKET, "--reserved", "x", says="--reserved: 'x' is no CPU")
+    refuses("numarun-describe hwloc", text=NODE.format(online="1", all="1", node=128), says="node 128: a machine file has nodes 0 to 127")
+    refuses("numarun-describe hwloc", text=NODE.format(online="1", all="1", node="x"), says="NUMANode x: no os_index")
+    refuses("numarun-describe hwloc", text=NODE.format(online="f...f", all="f...f", node=0), says="no finite bitmap")
+    refuses("numarun-describe hwloc", text=NODE.format(online="1", all="1" + ",0x0" * 128, node=0), says="CPU 4096: a machine file has")
+    refuses("numarun-describe hwloc", text=NODE.format(online="0", all="1", node=0), says="no CPU is online")

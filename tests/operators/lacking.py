@@ -4,9 +4,9 @@ import os
 import shutil
 import subprocess
 
-from trial import TOP, check, end
+from trial import TOP, case, check, scratch
 
-FOLDER = os.path.join(os.environ["SCRATCH"], "lacking")
+FOLDER = scratch("lacking")
 
 
 def said(name, tools, stand_ins=(), **scripts):
@@ -28,9 +28,12 @@ def said(name, tools, stand_ins=(), **scripts):
 NEEDED = ("qemu-system-x86_64", "cpio", "gcc", "crun")
 LINE = "linux: passed over: {}\n"
 INSTALLING = "linux: installing qemu-system-x86 cpio gcc libc6-dev crun by apt-get"
-check("neither qemu nor apt-get", said("nothing", ()),
-      (0, LINE.format("there is no qemu-system-x86 cpio gcc libc6-dev crun, and they can't be installed"), [INSTALLING]))
-check("no apt-cache, as where Linux is not Debian's", said("another", ("awk",), NEEDED), (0, LINE.format("apt-cache knows no linux-image-cloud-amd64"), []))
-check("no network", said("alone", ("awk",), NEEDED, apt_cache="echo '  Depends: linux-image-6.1'", apt_get="exit 100"),
-      (0, LINE.format("linux-image-6.1 can't be had"), ["linux: downloading linux-image-6.1, to be unpacked"]))
-end("linux.sh where something is missing")
+
+
+@case
+def what_is_said():
+    check("neither qemu nor apt-get", said("nothing", ()),
+          (0, LINE.format("there is no qemu-system-x86 cpio gcc libc6-dev crun, and they can't be installed"), [INSTALLING]))
+    check("no apt-cache, as where Linux is not Debian's", said("another", ("awk",), NEEDED), (0, LINE.format("apt-cache knows no linux-image-cloud-amd64"), []))
+    check("no network", said("alone", ("awk",), NEEDED, apt_cache="echo '  Depends: linux-image-6.1'", apt_get="exit 100"),
+          (0, LINE.format("linux-image-6.1 can't be had"), ["linux: downloading linux-image-6.1, to be unpacked"]))

@@ -7,10 +7,10 @@ import dataclasses
 import json
 import os
 import random
-import sys
 import time
 from typing import Dict, Optional, Set, Tuple
 
+from decisions import MACHINE
 from sites import Open, Site
 from model import NAMES, RESERVED, Agent, Choices, Killed, World
 from numarun_host.cgroups import Groups
@@ -18,11 +18,10 @@ from numarun_host.commands import Answer, Command, SetLimit, Taken
 from numarun_host.doing import Ending, Hands, PoolCommand
 from numarun_host.ledger import State
 from numarun_host.log import logger
-from numarun_host.machine import Machine
 from numarun_host.records import Certificates
 from numarun_host.seen import Group, NoGroup
 from numarun_host.taken import Record, read_record
-from trial import check, end, told
+from trial import case, check, long_case, told
 
 Limit = Tuple[int, int]
 CASES = int(os.environ.get("CASES", 1500))
@@ -43,6 +42,7 @@ def kept(site: Site, name: str) -> Optional[Limit]:
     return taken.limit if taken else None
 
 
+@case
 def lifted_and_given_back() -> None:
     """Over restarts with and without --lift, and a release."""
     site = Site()
@@ -66,6 +66,7 @@ def lifted_and_given_back() -> None:
     check("not where somebody gave it another one", (told("numarun-agent", *words)[0], limit(site, "a")), (0, "300000 100000"))
 
 
+@case
 def while_it_runs() -> None:
     """A limit that changes is followed and lifted again; who goes to the pool, or has ended, has its own again."""
     site = Site()
@@ -100,6 +101,7 @@ def while_it_runs() -> None:
     check("ended, and its group is left", limit(site, "b"), "700000 100000")
 
 
+@case
 def refused() -> None:
     """A limit that can't be written is said once, and tried again."""
     site = Site()
@@ -113,7 +115,7 @@ def refused() -> None:
     os.remove(path)
     os.symlink("/proc/sys/kernel/ostype", path)
     check("and nothing that is a limit", (site.run("--lift")[0], kept(site, "a")), (0, None))
-    world = LimitedWorld(machine(), Choices(b""))
+    world = LimitedWorld(MACHINE, Choices(b""))
     world.come()
     world.come()
     agent = Lifting(world, True)
@@ -130,6 +132,7 @@ def refused() -> None:
     check("and done when it can be", (world.limits[world.places["/tree/a"].inode], world.wrong), (None, []))
 
 
+@case
 def another_by_then() -> None:
     """Where somebody writes another limit between the look and the write, that stays."""
     site = Site()
@@ -146,6 +149,7 @@ def another_by_then() -> None:
     check("read", isinstance(found, Group) and found.limit, (5, 10))
 
 
+@case
 def taken_away_by_then() -> None:
     """Where somebody takes the limit away between the look and the write, nothing is given back later."""
     class Between(LimitedWorld):
@@ -154,13 +158,14 @@ def taken_away_by_then() -> None:
             self.limits[inode] = self.theirs[inode] = None
             return super().set_limit(command)
 
-    world = Between(machine_once, Choices(b""))
+    world = Between(MACHINE, Choices(b""))
     world.come()
     agent = Lifting(world, True)
     agent.look(troubled=False)
     check("nothing is kept", ([taken.limit for taken in world.taken.values()], world.wrong), ([None], []))
 
 
+@case
 def records() -> None:
     """What is kept has a fifth member where a limit is lifted; others, and what is none, are read as without."""
     site = Site()
@@ -177,11 +182,6 @@ def records() -> None:
 
 
 # By chance.
-
-
-def machine() -> Machine:
-    site = Site()
-    return Machine(site.at("machine.json"))
 
 
 @dataclasses.dataclass
@@ -296,7 +296,7 @@ def released(world: LimitedWorld) -> None:
 
 
 def fault_of(case: bytes) -> Optional[str]:
-    world = LimitedWorld(machine_once, Choices(case))
+    world = LimitedWorld(MACHINE, Choices(case))
     agent = Lifting(world, True)
     while world.choices.are_left:
         for _ in range(world.choices.below(3)):
@@ -311,16 +311,10 @@ def fault_of(case: bytes) -> Optional[str]:
     return world.wrong[0] if world.wrong else None
 
 
+@long_case
 def by_chance() -> None:
     chance, fault = random.Random(SEED), None
     for _ in range(CASES):
         case = bytes(chance.randrange(256) for _ in range(chance.choice((40, 100, 300))))
         fault = fault or (lambda found: found and f"{found}: {case!r}")(fault_of(case))
     check("by chance", fault, None)
-
-
-machine_once = machine()
-for part in (lifted_and_given_back, while_it_runs, refused, another_by_then, taken_away_by_then, records, by_chance):
-    if not sys.argv[1:] or part.__name__ in sys.argv[1:]:
-        part()
-end("limits that are lifted")

@@ -1,4 +1,4 @@
-"""Compares the man page with the help that the program prints: its words are the help's. The pages of the agent and of the hook name options
+"""Compares the man page with the help that the program prints: its words are the help's. The pages of the scripts name options
 that there are. mandoc looks at them, where it is."""
 
 import os
@@ -6,12 +6,11 @@ import re
 import shutil
 import subprocess
 
-from trial import OPERATORS, TOP, check, end
+from trial import OPERATORS, PROGRAM, TOP, case, check
 from trial import told as said
 
 PAGE = os.path.join(TOP, "docs", "numarun.1")
-PAGES = [os.path.join(OPERATORS, name) for name in ("numarun-agent.8", "numarun-hook.8")]
-PROGRAM = os.environ["PROGRAM"]
+PAGES = sorted(os.path.join(OPERATORS, name) for name in os.listdir(OPERATORS) if name.endswith((".1", ".8")))
 
 
 def helped(*words):
@@ -31,31 +30,42 @@ def squeezed(text):
     return " ".join(re.sub(r"[`\\.,;]", " ", text).split())
 
 
-page = plain(open(PAGE).read())
-told = helped("--help")
-abouts = re.findall(r"^ +(?:check|list|slit|run|solve) +(.+)$", told, re.M)
-check("the commands of the help", len(abouts), 5)
-abouts.append(told.splitlines()[0])
-for about in abouts:
-    check(f"the page has {about!r}", squeezed(about) in page, True)
-for command in ("check", "list", "slit", "run", "solve"):
-    text = helped("help", command)
-    usage = re.search(r"numarun (.+)", text)[1]
-    check(f"the page has the words of {command}", set(re.findall(r"[A-Za-z]+", usage)) <= set(re.findall(r"[A-Za-z]+", page)), True)
-    example = re.search(r"^Example: (.+?)(?: prints.*)?$", text, re.M)[1]
-    check(f"the page has an example of {command}", example.split(" <")[0] in open(PAGE).read(), True)
-for command in re.findall(r"^\| `([a-z]+)[^|]*\| (?:to|for|whether|that) ", open(os.path.join(TOP, "docs", "formats.md")).read(), re.M):
-    check(f"the page has the line {command}", f".It Cm {command}" in open(PAGE).read(), True)
-for path in PAGES:
-    helps = said(os.path.basename(path)[:-2], "--help")[1]
-    options = re.findall(r"^\.It Fl (-[a-z-]+)", open(path).read(), re.M)
-    check(f"options of {os.path.basename(path)}", [option for option in options if f"-{option} " not in helps], [])
-    check("and there are some", len(options) > 2, True)
-if shutil.which("mandoc"):
-    found = subprocess.run(["mandoc", "-T", "lint", PAGE], capture_output=True)
-    check("mandoc -T lint", (found.returncode, found.stdout.decode()), (0, ""))
-    found = subprocess.run(["mandoc", "-T", "lint", "-W", "warning", *PAGES], capture_output=True)
-    check("mandoc -T lint of the others", (found.returncode, found.stdout.decode()), (0, ""))
-else:
-    print("numarun.1: passed over, as there is no mandoc: mandoc -T lint")
-end("numarun.1")
+@case
+def of_the_program():
+    page = plain(open(PAGE).read())
+    told = helped("--help")
+    abouts = re.findall(r"^ +(?:check|list|slit|run|solve) +(.+)$", told, re.M)
+    check("the commands of the help", len(abouts), 5)
+    abouts.append(told.splitlines()[0])
+    for about in abouts:
+        check(f"the page has {about!r}", squeezed(about) in page, True)
+    for command in ("check", "list", "slit", "run", "solve"):
+        text = helped("help", command)
+        usage = re.search(r"numarun (.+)", text)[1]
+        check(f"the page has the words of {command}", set(re.findall(r"[A-Za-z]+", usage)) <= set(re.findall(r"[A-Za-z]+", page)), True)
+        example = re.search(r"^Example: (.+?)(?: prints.*)?$", text, re.M)[1]
+        check(f"the page has an example of {command}", example.split(" <")[0] in open(PAGE).read(), True)
+    for command in re.findall(r"^\| `([a-z]+)[^|]*\| (?:to|for|whether|that) ", open(os.path.join(TOP, "docs", "formats.md")).read(), re.M):
+        check(f"the page has the line {command}", f".It Cm {command}" in open(PAGE).read(), True)
+
+
+@case
+def of_the_scripts():
+    for path in PAGES:
+        name = os.path.basename(path)
+        kinds = (("host",), ("hwloc",)) if name == "numarun-describe.1" else ((),)
+        helps = "".join(said(name[:-2], *kind, "--help")[1] for kind in kinds)
+        options = [option for line in open(path) if line.startswith(".It") for option in re.findall(r"Fl (-[a-z-]+)", line)]
+        check(f"options of {name}", [option for option in options if not re.search(f"-{option}[ =]", helps)], [])
+        check(f"{name} has some", bool(options), True)
+
+
+@case
+def by_mandoc():
+    if shutil.which("mandoc"):
+        found = subprocess.run(["mandoc", "-T", "lint", PAGE], capture_output=True)
+        check("mandoc -T lint", (found.returncode, found.stdout.decode()), (0, ""))
+        found = subprocess.run(["mandoc", "-T", "lint", "-W", "warning", *PAGES], capture_output=True)
+        check("mandoc -T lint of the others", (found.returncode, found.stdout.decode()), (0, ""))
+    else:
+        print("numarun.1: passed over, as there is no mandoc: mandoc -T lint")

@@ -18,6 +18,7 @@ from numarun_host.seen import Found, Group, Look, Missing, NoGroup, Online, Told
 Cpus = FrozenSet[int]
 ROOT, RESERVED = "/tree", frozenset({0})
 NAMES = ("a", "b", "c", "d", "e", "s", "t")
+POOLED = ("s", "t")  # those of them that ask for no CPUs of their own
 NO_WRITE = "refused E50 KernelFault"
 
 
@@ -250,6 +251,7 @@ class World:
     links: Dict[str, str] = field(default_factory=dict)
     taken: Dict[str, Taken] = field(default_factory=dict)
     copies: Set[str] = field(default_factory=set)
+    seen: Dict[str, Cpus] = field(default_factory=dict)  # by its path what a group requests, as the agent saw or wrote it last
     hidden: bool = False
     read_only: int = 0  # so many writes fail from now on
     refused: Optional[str] = None  # where the last one failed
@@ -265,7 +267,7 @@ class World:
             return False
         if path in self.places:
             self.check(path, cpus, shared)
-            self.places[path].cpus, self.places[path].shared = cpus, shared
+            self.places[path].cpus, self.places[path].shared, self.seen[path] = cpus, shared, cpus
         return True
 
     def end_processes(self, path: Optional[str]) -> None:
@@ -273,13 +275,13 @@ class World:
             self.wrong.append(f"the processes of {path} were ended")
 
     def check(self, path: str, cpus: Cpus, shared: bool) -> None:
-        """What a write gives is nobody else's own, and what it gives as one's own is nobody else's at all. Who requests CPUs without a reserved
-        one has them as its own, unless it was written as one that is on the pool."""
-        given = cpus - self.places[path].cpus
+        """What a write gives is nobody else's own, and what it gives as one's own is nobody else's at all, as the agent saw it last. Who requests
+        CPUs without a reserved one has them as its own, unless it was written as one that is on the pool."""
+        given = cpus - self.places[path].cpus - self.seen.get(path, frozenset[int]())
         for other, place in self.places.items():
-            own = not place.cpus & RESERVED and not place.shared
-            if other != path and place.populated and given & place.cpus and (own or not (shared or cpus & RESERVED)):
-                self.wrong.append(f"{path} is given {shown(given & place.cpus)}, which {other} has")
+            own, both = not place.cpus & RESERVED and not place.shared, given & place.cpus & self.seen.get(other, frozenset[int]())
+            if other != path and place.populated and both and (own or not (shared or cpus & RESERVED)):
+                self.wrong.append(f"{path} is given {shown(both)}, which {other} has")
 
     # What happens.
 
@@ -296,7 +298,7 @@ class World:
 
     def config(self, name: str) -> Dict[str, object]:
         """A config, most of them of few CPUs; some may take fewer, or are never moved, or name CPUs."""
-        if name in ("s", "t"):
+        if name in POOLED:
             return config_of(0)
         way = self.choices.below(8)
         count = 1 + way % 3
@@ -310,11 +312,15 @@ class World:
         return f"{ROOT}/{name}"
 
     def come(self) -> None:
+        """A container; its runtime has written the CPUs that its config names, or those of a container before."""
         name = self.chosen()
         if name not in self.bundles:
             self.count += 1
-            self.places[self.path(name)] = Place(self.count)
-            self.bundles[name] = Bundle(self.config(name), self.count)
+            config = self.config(name)
+            has = read(config["linux"]["resources"]["cpu"].get("cpus", ""))  # type: ignore[index]
+            has = has if self.choices.below(4) else read(("", "1-2", "3", "2,5")[self.choices.below(4)])
+            self.places[self.path(name)] = Place(self.count, has, shared=name in POOLED)
+            self.bundles[name] = Bundle(config, self.count)
 
     def go(self) -> None:
         name = self.chosen()
@@ -326,7 +332,7 @@ class World:
         name = self.chosen()
         if name in self.bundles:
             self.count += 1
-            self.places[self.path(name)] = Place(self.count)
+            self.places[self.path(name)] = Place(self.count, shared=name in POOLED)
             self.bundles[name] = Bundle(self.config(name) if self.choices.below(2) else None, self.count)
 
     def configure(self) -> None:
@@ -354,10 +360,10 @@ class World:
         self.hidden = not self.hidden
 
     def drift(self) -> None:
-        """Somebody else's write, of CPUs that are nobody's."""
+        """Somebody else's write."""
         place = self.places.get(self.path(self.chosen()))
         if place and place.cpus:
-            place.cpus = RESERVED
+            place.cpus = (RESERVED, RESERVED, read("1-2"), read("4"))[self.choices.below(4)]
 
     def settle(self) -> None:
         """All that went wrong is right again."""
@@ -365,7 +371,7 @@ class World:
         for name, bundle in list(self.bundles.items()):
             if bundle.config is None or bundle.config == config_of(0, "90"):
                 self.count += 1
-                self.bundles[name] = Bundle(config_of(1) if name not in ("s", "t") else config_of(0), self.count)
+                self.bundles[name] = Bundle(config_of(1) if name not in POOLED else config_of(0), self.count)
 
     # What a look finds.
 
@@ -374,12 +380,17 @@ class World:
         told = {} if self.hidden else {name: self.found(name, bundle) for name, bundle in self.bundles.items()}
         paths = {container.seen.group.path for container in ledger.containers.values()} | ledger.taken.keys() | ledger.renewed.keys()
         paths |= {path for path, _ in ledger.before.values() if path} | {one.group.path for one in told.values() if isinstance(one, Found)}
-        return Look(self.now, told, {path: self.group(path) for path in paths}, Online(self.online))
+        groups = {path: self.group(path) for path in paths}
+        held = {one.group.path for one in told.values() if isinstance(one, Found)}
+        held |= {path for path, entry in ledger.taken.items() if path in self.places and self.places[path].inode == entry.inode}
+        self.seen = {path: group.cpus for path, group in groups.items() if path in held and isinstance(group, Group)}
+        return Look(self.now, told, groups, Online(self.online))
 
     def found(self, name: str, bundle: Bundle) -> Union[Found, Missing]:
-        told, group = Told(f"/g/{name}", f"/g/{name}"), self.group(self.path(name))
+        told = Told(f"/g/{name}", f"/g/{name}")
         if bundle.config is None:
             return Missing(told, "not JSON", True)
+        group = self.group(self.path(name))
         if isinstance(group, NoGroup):
             return Missing(told, group.why)
         return Found(told, (told, bundle.turn), bundle.config, group, bundle.turn)

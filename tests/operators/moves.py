@@ -6,12 +6,12 @@ import random
 import subprocess
 import sys
 
-from trial import TOP, check, end
+from trial import PROGRAM, TOP, case, check, scratch
 
 FOLDER = os.path.join(TOP, "benches", "moves")
 sys.path.insert(0, FOLDER)
 measure = importlib.import_module("measure")
-SCRIPT, PROGRAM = os.path.join(FOLDER, "measure.py"), os.environ["PROGRAM"]
+SCRIPT = os.path.join(FOLDER, "measure.py")
 
 
 class Answers:
@@ -47,6 +47,7 @@ def counted(*plans):
     return list(changes.hands.values()), names, numarun.lines
 
 
+@case
 def by_hand():
     first, alone = {"c0": {1, 2}, "c1": {3}}, {"c1": {1}}
     both, other = {"c1": {1}, "new": {2, 3}}, {"c1": {4}, "new": {3, 5}}
@@ -60,8 +61,9 @@ def by_hand():
     check("no plan at all", counted(None), ([[], [], [], []], ["c0", "c1"], ["create c0 2", "create c1 1"]))
 
 
+@case
 def made():
-    path = os.path.join(os.environ["SCRATCH"], "made.json")
+    path = scratch("made.json")
     measure.write_made(path)
     machine = measure.Machine(path)
     check("the made machine", (len(machine.nodes), len(machine.present)), (8, 1024))
@@ -75,14 +77,17 @@ def ran(*words):
     return done.returncode, done.stdout.decode(), done.stderr.decode()
 
 
-by_hand()
-made()
-status, out, err = ran(PROGRAM, "1")
-check("a small run", (status, len(out.splitlines()), err), (0, 15, ""))
-here = os.getcwd()
-check("no such program", ran("no-such-program")[::2], (1, f"measure.py: {here}/no-such-program: No such file or directory\n"))
-for words in ((), ("x", "0"), ("x", "y"), ("x", "1", "2")):
-    check(f"the words {words}", ran(*words)[:2], (2, ""))
-helped = subprocess.run(["bash", os.path.join(FOLDER, "run.sh"), "--help"], capture_output=True, timeout=100)
-check("the help", (helped.returncode, b"example: benches/moves/run.sh 300" in helped.stdout), (0, True))
-end("benches/moves")
+@case
+def small():
+    status, out, err = ran(PROGRAM, "1")
+    check("a small run", (status, len(out.splitlines()), err), (0, 15, ""))
+
+
+@case
+def words():
+    here = os.getcwd()
+    check("no such program", ran("no-such-program")[::2], (1, f"measure.py: {here}/no-such-program: No such file or directory\n"))
+    for words in ((), ("x", "0"), ("x", "y"), ("x", "1", "2")):
+        check(f"the words {words}", ran(*words)[:2], (2, ""))
+    helped = subprocess.run(["bash", os.path.join(FOLDER, "run.sh"), "--help"], capture_output=True, timeout=100)
+    check("the help", (helped.returncode, b"example: benches/moves/run.sh 300" in helped.stdout), (0, True))

@@ -1,5 +1,5 @@
 """Tries the unit and the package: that nothing ends the agent for good on a fresh boot, that the page's commands come to an agent that
-starts, and a package that is made, installed in a root folder of its own, tried and removed. No service manager is started."""
+starts, and a package that is made (layers.py installs it). No service manager is started."""
 
 import configparser
 import json
@@ -9,14 +9,11 @@ import shlex
 import shutil
 import socket
 import subprocess
-import sys
 import time
 
 from sites import IN_FOLDERS, Open, Site
-from trial import OPERATORS, check, end, refuses, told
+from trial import OPERATORS, PROGRAM, case, check, long_case, refuses, scratch, told
 
-PROGRAM = os.path.abspath(os.environ["PROGRAM"])
-SCRATCH = os.environ["SCRATCH"]
 HERE = {**os.environ, "PROGRAM": PROGRAM}
 WORDS = ["--online", "/sys/devices/system/cpu/online", "--program", IN_FOLDERS, "--pause", "0.1"]
 
@@ -29,7 +26,7 @@ def unit_of(prefix):
 
 
 def installed(name):
-    prefix = os.path.join(SCRATCH, name)
+    prefix = scratch(name)
     check("installed", told("install.sh", prefix, env=HERE)[0], 0)
     return prefix
 
@@ -40,6 +37,7 @@ def begun(unit, options, **paths):
     return [paths.get(word, word) for word in shlex.split(line)]
 
 
+@case
 def goes_on():
     """Whatever ends it, it is started again; its program is named by its path, and OPTIONS adds to what is told."""
     prefix = installed("of one's own")
@@ -56,8 +54,9 @@ def goes_on():
     os.mkdir(site.at("second"))
     site.come("b", 1)
     os.rename(site.at("g/b"), site.at("second/b"))
-    paths = {"/etc/numarun/machine.json": site.at("machine.json"), "/sys/fs/cgroup": site.at("root"), "/run/crun": site.at("g")}
+    paths = {"/etc/numarun/machine.json": site.at("machine.json"), "/sys/fs/cgroup": site.at("root"), "/etc/numarun/services": site.at("g"), "all": "docker"}
     words = begun(unit, f"--watch {site.at('second')} --rest more.slice", **paths)
+    check("all runtimes", "--runtime all" in unit["Service"]["ExecStart"], True)
     check("its path", words[0], os.path.join(prefix, "bin", "numarun-agent"))
     ran = subprocess.run([*words, *WORDS, "--online", site.at("online"), "--work", site.at("work"), "--rounds", "1"], capture_output=True)
     check("OPTIONS adds", (ran.returncode, site.has("a", "b"), site.file("system.slice"), site.file("more.slice")), (0, ["1-2", "3"], "0,4-7", "0,4-7"))
@@ -72,9 +71,10 @@ def unit_block(page):
     return re.sub(r"\s+#.*", "", next(block for block in blocks if "systemctl enable" in block))
 
 
+@case
 def by_the_page():
     """What the pages say to type makes a machine file with cores, and an agent that starts by it before any container ran."""
-    prefix, etc, bin = installed("prefix"), os.path.join(SCRATCH, "etc"), os.path.join(SCRATCH, "bin")
+    prefix, etc, bin = installed("prefix"), scratch("etc"), scratch("bin")
     block = unit_block("README.md")
     check("the first page and install.md say the same", unit_block("install.md"), block)
     os.makedirs(bin)
@@ -92,11 +92,12 @@ def by_the_page():
     check("a machine file with cores", "cores" in json.load(open(machine)), True)
     check("the unit", open(os.path.join(etc, "systemctl")).read(), "enable --now numarun-agent\n")
     site = Site()
-    words = begun(unit_of(prefix), "", **{"/etc/numarun/machine.json": machine, "/sys/fs/cgroup": site.at("root"), "/run/crun": site.at("no-such")})
+    words = begun(unit_of(prefix), "", **{"/etc/numarun/machine.json": machine, "/sys/fs/cgroup": site.at("root"), "/etc/numarun/services": site.at("no-such"), "all": "docker"})
     ran = subprocess.run([*words, *WORDS, "--work", site.at("work"), "--rounds", "3"], capture_output=True)
     check("it starts", (ran.returncode, ran.stdout.decode().count("refused"), ran.stderr), (0, 0, b""))
 
 
+@case
 def notified():
     """systemd is told that it is ready behind the first look, that it works, and that it ends."""
     site = Site()
@@ -114,6 +115,7 @@ def notified():
     check("systemd is told", (status, heard[:2], heard[-1]), (0, [b"READY=1", b"WATCHDOG=1"], b"STOPPING=1"))
 
 
+@case
 def before_any_container():
     """The watched folder comes with the first container."""
     site = Site()
@@ -127,17 +129,13 @@ def before_any_container():
     check("the first one", (site.has("a"), [line for line in lines if "look" in line], agent.end()[0]), (["1-2"], [], 0))
 
 
-def dpkg(root, *words):
-    ran = subprocess.run(["dpkg", f"--root={root}", "--force-depends", "--log=/dev/null", *words], capture_output=True)
-    return ran.returncode, ran.stderr.decode() if ran.returncode else ""
-
-
+@long_case
 def package():
-    if not shutil.which("dpkg-deb"):
-        print("the package: passed over, as there is no dpkg-deb")
+    if not shutil.which("dh_python3"):
+        print("the package: passed over, as there is none: dh_python3")
         return
     refuses("install.sh", "--deb", "/dev/null", says="/dev/null: no folder", env=HERE)
-    folder, root = os.path.join(SCRATCH, "packages"), os.path.join(SCRATCH, "root of its own")
+    folder = scratch("packages")
     os.makedirs(folder)
     status, out, err = told("install.sh", "--deb", folder, env=HERE)
     made = os.listdir(folder)
@@ -146,38 +144,3 @@ def package():
     names = subprocess.run(["dpkg-deb", "--fsys-tarfile", path], capture_output=True).stdout
     owners = set(subprocess.run(["tar", "-tv", "--numeric-owner"], input=names, capture_output=True).stdout.decode().split("\n")[0].split()[1:2])
     check("root's files", owners, {"0/0"})
-    if os.geteuid() == 0:
-        tried(root, path)
-    else:
-        print("the package: installing it is passed over, as this is not root")
-    if shutil.which("lintian"):
-        ran = subprocess.run(["lintian", path], capture_output=True)
-        print("the package: what lintian says, which fails nothing here:", sorted(set(ran.stdout.decode().split("\n"))))
-    else:
-        print("the package: passed over, as there is none: lintian")
-
-
-def tried(root, path):
-    for name in ("info", "updates", "triggers"):
-        os.makedirs(os.path.join(root, "var/lib/dpkg", name))
-    for name in ("status", "available"):
-        open(os.path.join(root, "var/lib/dpkg", name), "w").close()
-    check("dpkg -i", dpkg(root, "-i", path), (0, ""))
-    for name in ("numarun", "numarun-agent", "numarun-hook", "numarun-dry-run"):
-        ran = subprocess.run([os.path.join(root, "usr/bin", name), "--help"], capture_output=True, cwd="/")
-        check(f"{name} --help", (ran.returncode, bool(ran.stdout)), (0, True))
-    check("its unit", unit_of(os.path.join(root, "usr"))["Service"]["ExecStart"].split()[0], '"/usr/bin/numarun-agent"')
-    check("its folders", os.path.isdir(os.path.join(root, "etc/numarun")), True)
-    check("what dpkg says of the files", dpkg(root, "--verify", "numarun"), (0, ""))
-    for place, _, names in os.walk(os.path.join(root, "usr", "lib", "numarun")):
-        if place.endswith("__pycache__"):
-            shutil.rmtree(place)
-    check("dpkg -r", dpkg(root, "-r", "numarun"), (0, ""))
-    left = [os.path.join(place, name) for place, _, names in os.walk(root) for name in names if "/var/lib/dpkg" not in place]
-    check("nothing is left", left, [])
-
-
-for part in (goes_on, by_the_page, notified, before_any_container, package):
-    if not sys.argv[1:] or part.__name__ in sys.argv[1:]:
-        part()
-end("the unit and the package")

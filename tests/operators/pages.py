@@ -14,20 +14,18 @@ from typing import Dict, Iterator, List, Tuple
 
 import log_words
 from sites import IN_FOLDERS, Open, Site, untimed
-from trial import EXAMPLES, OPERATORS, TOP, check, end, told
+from trial import EXAMPLES, OPERATORS, PROGRAM, TOP, case, check, scratch, told
 from numarun_host.commands import Verb
 from numarun_host.ledger import Kind, State
 from numarun_host.records import FIGURES
 
-PROGRAM = os.path.abspath(os.environ["PROGRAM"])
-SCRATCH = os.environ["SCRATCH"]
-PREFIX = os.path.join(SCRATCH, "pages installed")
+PREFIX = scratch("pages installed")
 DOC = os.path.join(PREFIX, "share", "doc", "numarun")
 PACKAGE = pathlib.Path(OPERATORS) / "numarun_host"
 PAGES: Dict[str, str] = {path.name: path.read_text() for path in pathlib.Path(OPERATORS).glob("*.md")}
-PROGRAMS = ("numarun-agent", "numarun-agent status", "numarun-hook", "numarun-dry-run", "numarun-explain", "numarun-draw-plan", "numarun-describe host",
+PROGRAMS = ("numarun-agent", "numarun-agent status", "numarun-agent add-service", "numarun-hook", "numarun-runc", "numarun-dry-run", "numarun-explain", "numarun-draw-plan", "numarun-describe host",
             "numarun-describe hwloc", "install.sh")
-OF_OTHERS = {"--annotation", "--env", "--of", "--disallowed", "--now", "--sort", "--cpu-quota", "--cgroup-parent"}  # options of other programs
+OF_OTHERS = {"--annotation", "--env", "--of", "--disallowed", "--now", "--sort", "--cpu-quota", "--name", "--root", "--runc-binary", "--cgroup-parent", "--memory"}  # options of other programs
 OF_THE_SYSTEM = {"No such file or directory", "No space left on device"}
 OPTION = re.compile(r"(?<![\w-])--[a-z][a-z-]+")
 
@@ -44,6 +42,7 @@ def blocks(page: str, kind: str) -> Iterator[str]:
             yield block
 
 
+@case
 def says_each_line() -> None:
     """Each word with which a line of the log begins has a row, and that says what one does; each phrase stands there as it is said."""
     words, others = log_words.first_words(PACKAGE)
@@ -58,6 +57,7 @@ def says_each_line() -> None:
     check("phrases that it lacks", sorted(phrase for phrase in log_words.phrases(PACKAGE) if phrase not in page), [])
 
 
+@case
 def names_what_there_is() -> None:
     figures = set(re.findall(r"`numarun_(\w+)`", PAGES["log.md"]))
     check("the figures", figures, set(FIGURES))
@@ -73,6 +73,7 @@ def names_what_there_is() -> None:
             check(f"{page}: numarun.{wish}", f"numarun.{wish}=" in helps, True)
 
 
+@case
 def quotes_what_is_said() -> None:
     """What troubleshooting.md quotes of a line, between what stands there for something else, is said by a script."""
     said = log_words.all_texts(PACKAGE)
@@ -92,6 +93,7 @@ def install() -> None:
     check("installed", told("install.sh", PREFIX, env={**os.environ, "PROGRAM": PROGRAM})[0], 0)
 
 
+@case
 def is_laid_out() -> None:
     """Installed pages lead to what is installed."""
     install()
@@ -108,6 +110,7 @@ def typed(line: str, folder: str = DOC) -> Tuple[int, str]:
     return ran.returncode, ran.stdout.decode() + ran.stderr.decode()
 
 
+@case
 def shows_what_is_said() -> None:
     """What is shown behind a command is what it says, but for the time."""
     stamp, count = r"\d{4}-\d\d-\d\dT[\d:.]+ ", 0
@@ -121,10 +124,11 @@ def shows_what_is_said() -> None:
     check("what is shown", count >= 6, True)
 
 
+@case
 def draws() -> None:
-    lines = next(block for block in blocks("plans.md", "sh") if "draw-plan" in block).replace("/tmp/", f"{shlex.quote(SCRATCH)}/").splitlines()
+    lines = next(block for block in blocks("plans.md", "sh") if "draw-plan" in block).replace("/tmp/", f"{shlex.quote(scratch())}/").splitlines()
     found = [typed(line) for line in lines]
-    check("the picture", ([status for status, _ in found], open(os.path.join(SCRATCH, "plan.svg")).read()),
+    check("the picture", ([status for status, _ in found], open(scratch("plan.svg")).read()),
           ([0, 0, 0], open(os.path.join(TOP, "docs", "two-socket.svg")).read()))
     check("and as text", "database" in found[2][1], True)
 
@@ -133,6 +137,7 @@ def two_sockets() -> Site:
     return Site(json.load(open(os.path.join(EXAMPLES, "machines", "two-socket.json"))))
 
 
+@case
 def ten_minutes() -> None:
     """The log and the table of the first page, by a container that comes."""
     site = two_sockets()
@@ -148,30 +153,39 @@ def ten_minutes() -> None:
     agent.end()
     first = next(block for block in blocks("README.md", "sh") if "--rounds" in block).strip()
     has = site.has("db")
-    line = first.replace("/etc/numarun/machine.json", site.at("machine.json")).replace("/run/crun", site.at("g"))
+    line = first.replace("/etc/numarun/machine.json", site.at("machine.json")).replace("--runtime all", f"--watch {site.at('g')}")
     found = typed(f"{line} --online {site.at('online')}")
     check("and what is seen first", (found[0], "".join(f"{line}\n" for line in untimed(found[1])).replace(site.at("g"), "/run/crun")), (0, shown[0]))
     check("which writes nothing", site.has("db"), has)
 
 
+@case
 def a_service() -> None:
-    """What the page says to type makes a service one of the containers, and the others of its slice are held on the pool."""
+    """What the page says to type makes a service one of the containers, by both of its ways, and the others of its slice are held on the
+    pool."""
     site = two_sockets()
     site.online("0-31")
     for group in ("system.slice", "system.slice/postgresql.service", "system.slice/ssh.service"):
         site.make_group(None, group=group)
-    block = next(block for block in blocks("runtimes.md", "sh") if "postgresql" in block)
+    short, block = (block for block in blocks("runtimes.md", "sh") if "postgresql" in block)
+    folder = site.at("etc/services/postgresql")
+    check("the short way", typed(f"{short.strip()} --services {site.at('etc/services')} --cgroup {site.at('root')}"),
+          (0, f"{folder}: postgresql.service at /system.slice/postgresql.service\n"))
+    by_hand = {name: json.load(open(os.path.join(folder, name))) for name in ("status", "config.json")}
     check("typed", typed(f"set -e\n{block}".replace("/etc/numarun", site.at("etc"))), (0, ""))
+    check("the same by hand", {name: json.load(open(os.path.join(folder, name))) for name in by_hand}, by_hand)
     status, lines = site.run("--defaults", "--watch", site.at("etc/services"), "--rest", "system.slice")
     named = "hold postgresql 1-2,17-18"
     check("pinned", (status, named in lines, f"`{named}`" in PAGES["runtimes.md"]), (0, True, True))
     check("beside the others", (site.file("system.slice/postgresql.service"), site.file("system.slice/ssh.service")), ("1-2,17-18", "0,3-16,19-31"))
 
 
+@case
 def a_hook() -> None:
-    block = next(blocks("runtimes.md", "json"))
+    block, daemon = blocks("runtimes.md", "json")
     check("the hook", json.loads(block)["hook"]["path"], "/usr/local/bin/numarun-hook")
-    script = os.path.join(SCRATCH, "pool")
+    check("docker's runtime", json.loads(daemon)["runtimes"]["numarun"]["path"], "/usr/local/bin/numarun-runc")
+    script = scratch("pool")
     with open(script, "w") as file:
         file.write(next(block for block in blocks("safety.md", "sh") if block.startswith("#!")))
     check("the pool's script", subprocess.run(["sh", "-n", script], capture_output=True).returncode, 0)
@@ -180,6 +194,7 @@ def a_hook() -> None:
     check("its mask", ran.stdout.decode(), "00000003,00000039\n")
 
 
+@case
 def a_configuration() -> None:
     """The words of a file, as install.md has them, and the options of the unit."""
     site = Site()
@@ -188,9 +203,3 @@ def a_configuration() -> None:
         file.write("\n".join([site.at("machine.json"), *options]) + "  # as the page has it\n")
     status, out, _ = told("numarun-agent", "check-config", f"@{site.at('words')}", "--program", IN_FOLDERS)
     check("@FILE", (status, len(options), "are left to the pool" in out), (0, 1, True))
-
-
-for part in (says_each_line, names_what_there_is, quotes_what_is_said, is_laid_out, shows_what_is_said, draws, ten_minutes, a_service, a_hook, a_configuration):
-    if not sys.argv[1:] or part.__name__ in sys.argv[1:]:
-        part()
-end("the pages of operators/")

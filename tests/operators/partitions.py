@@ -7,22 +7,20 @@ from __future__ import annotations
 import dataclasses
 import os
 import random
-import sys
 import tempfile
 from pathlib import Path
 from types import SimpleNamespace
 from typing import Dict, List, Optional, Set
 from unittest import mock
 
-TOP = Path(__file__).resolve().parent.parent.parent
-sys.path.insert(0, str(TOP / "operators"))
+from trial import EXAMPLES, case, check, long_case
 from numarun_host import partition_files, partitioning
 from numarun_host.commands import Answer, Say, Write
-from numarun_host.cpus import NO_CPUS, Cpus, print_list, read_list
-from numarun_host.ledger import Kind, Ledger, Settings, Topic
+from numarun_host.cpus import NO_CPUS, Cpus, read_list
+from numarun_host.ledger import Ledger, Settings, Topic
 from numarun_host.machine import Machine
 from numarun_host.partition import CPUS_FILE, EXCLUSIVE_FILE, FILE, MEMBER, ROOT, Asking, Layout, Loose, Partition
-from numarun_host.partition_files import Before, give_back, layout_of, make, read_before
+from numarun_host.partition_files import give_back, layout_of, make, read_before
 from numarun_host.partitioning import keep_partition, wanted_by
 from numarun_host.script import Refused
 from numarun_host.seen import Look
@@ -30,12 +28,8 @@ from numarun_host.telling import Turn
 
 CASES = int(os.environ.get("CASES", 3000))
 SEED = 20261129
-MACHINE = Machine(str(TOP / "examples/machines/two-socket.json"))
+MACHINE = Machine(os.path.join(EXAMPLES, "machines", "two-socket.json"))
 NOT_EXCLUSIVE = "root invalid (Cpu list in cpuset.cpus not exclusive)"
-
-
-def check(what: str, got: object, wanted: object) -> None:
-    assert got == wanted, f"{what}: {got!r}, not {wanted!r}"
 
 
 def cpus(text: str) -> Cpus:
@@ -148,12 +142,13 @@ def by_chance(chance: random.Random) -> None:
     check("at the end", (kernel.text, kernel.cpus, ledger.problem(Topic.PARTITION)), (ROOT, wanted_by(ledger), None))
 
 
+@long_case
 def decided_by_chance() -> None:
-    for case in range(CASES):
-        by_chance(random.Random(SEED * CASES + case))
-    print(f"partitions: {CASES} histories by chance: no invalid one is given CPUs, no container is outside of a valid one, and each heals")
+    for history in range(CASES):
+        by_chance(random.Random(SEED * CASES + history))
 
 
+@case
 def said() -> None:
     """Which lines are said, and how often; the pauses grow while nothing helps."""
     kernel, ledger = Kernel(), begun(frozenset())
@@ -176,6 +171,7 @@ def said() -> None:
     assert len(gaps) >= 8, gaps
 
 
+@case
 def resized() -> None:
     """More CPUs at once, fewer once nobody requests them; never where a plan is due."""
     kernel, ledger = Kernel(), begun(cpus("1-2"))
@@ -197,12 +193,12 @@ def resized() -> None:
     check("the order of fewer", [write.file for write in deep.give(cpus("1"), False)], [CPUS_FILE, EXCLUSIVE_FILE, EXCLUSIVE_FILE])
 
 
+@case
 def loose() -> None:
     """A process is named once, and again once it went and came."""
     ledger, found = begun(frozenset()), (Loose(7, "sh", cpus("3")),)
     said = [[command.line for command in partitioning.say_loose(ledger, one) if isinstance(command, Say)] for one in (found, found, (), found)]
     check("loose", said, [["loose 7 sh: it may run on 3"], [], [], ["loose 7 sh: it may run on 3"]])
-    print("partitions: what is said, when it is tried again, grown and shrunk, and who is loose")
 
 
 # In plain folders.
@@ -291,6 +287,7 @@ class Tree:
                 for name in (str(path.relative_to(self.root)) for path in Path(self.root).rglob("*") if path.is_dir())}
 
 
+@case
 def made() -> None:
     tree = Tree()
     check("made", (tree.make("pinned", "1-31"), tree.has("pinned/cpuset.cpus"), tree.has("cgroup.subtree_control")), (ROOT, "1-31", "+cpuset"))
@@ -313,6 +310,7 @@ def made() -> None:
     check("one that somebody else made", (tree.make("pinned", "1-31"), tree.give_back(), tree.left()), (ROOT, [], {"pinned 1-31 root"}))
 
 
+@case
 def refused() -> None:
     whole = "--partition: the machine file has all CPUs of ROOT, so none is left to the rest of the host (numarun-describe --system)"
     table = [
@@ -343,9 +341,9 @@ def refused() -> None:
         tree.group("pinned", "1-31", cpuset_cpus_partition=text)
         got, before = tree.make("pinned", asked), {f"pinned 1-31 {text}"}
         assert got.startswith("--partition: ROOT/pinned") and got.endswith(wanted) and tree.left() == before, (text, got, tree.left())
-    print(f"partitions: made and given back in plain folders, and {len(table) + 5} that are refused, with nothing left of them")
 
 
+@case
 def killed() -> None:
     """Killed at any step of making one, the next agent finds what the first one made, or makes it; and it can be given back."""
     for group in ("pinned", "a/b"):
@@ -364,16 +362,3 @@ def killed() -> None:
             assert again == ROOT or read_before(tree.work) is not None, (what, again)
             check(what, (tree.give_back()[-1].rpartition(" ")[2], tree.left(), read_before(tree.work)), ("removed", set(), None))
         assert steps >= 4, steps
-    print("partitions: killed at each step of making one, and given back")
-
-
-check("a kind of problem that does not fail the agent", Kind.OUTSIDE.value, "outside")
-assert Before("/x").made == []
-assert print_list(wanted_by(begun(cpus("1-31")))) == "0"
-said()
-resized()
-loose()
-decided_by_chance()
-made()
-refused()
-killed()

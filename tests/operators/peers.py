@@ -7,12 +7,12 @@ import re
 import subprocess
 import sys
 
-from trial import TOP, check, end
+from trial import PROGRAM, TOP, case, check, scratch
 
 FOLDER = os.path.join(TOP, "benches", "peers")
 sys.path.insert(0, FOLDER)
 compare = importlib.import_module("compare")
-SCRIPT, PROGRAM = os.path.join(FOLDER, "compare.py"), os.environ["PROGRAM"]
+SCRIPT = os.path.join(FOLDER, "compare.py")
 
 
 class Asks:
@@ -23,6 +23,7 @@ class Asks:
         self.weights = {cpu: machine.weight(self.homes, cpu) for cpu in self.allowed}
 
 
+@case
 def by_hand():
     machine = compare.Machine(os.path.join(TOP, "examples", "machines", "two-socket.json"))
     free = machine.present - machine.reserved
@@ -47,9 +48,10 @@ def by_hand():
     check("the other way round", compare.place(compare.nearest, [second, first], machine), [{1}, {2}])
 
 
+@case
 def cores():
     """The machine files that are written, by hand: each CPU a core, or siblings together; and what a plan of half a core comes to."""
-    os.chdir(os.environ["SCRATCH"])
+    os.chdir(scratch())
     plain = compare.Cores(compare.Machine(compare.written("two-socket")))
     check("no cores", (plain.threads, plain.present, plain.reserved), (1, set(range(32)), {0, 16}))
     of_two = compare.Cores(compare.Machine(compare.written("two-socket", True)))
@@ -69,6 +71,7 @@ def cores():
     os.chdir(TOP)
 
 
+@case
 def lists():
     """By hand: a socket of two nodes, and what a container has to itself is in no later list."""
     machine = compare.Machine(os.path.join(TOP, "examples", "machines", "two-nodes-a-socket.json"))
@@ -89,6 +92,7 @@ def ran(*words):
     return done.returncode, done.stdout.decode(), done.stderr.decode()
 
 
+@case
 def small():
     status, out, err = ran(PROGRAM, "2")
     plain, whole = out.split("\n\n")
@@ -98,15 +102,12 @@ def small():
     check("nobody beats numarun", [row for row in beside for ways in row for cell in ways if cell != "-" and float(cell) < 1], [])
 
 
-by_hand()
-cores()
-lists()
-small()
-here = os.getcwd()
-check("no such program", ran("no-such-program"), (1, "", f"compare.py: {here}/no-such-program: No such file or directory\n"))
-check("not numarun", ran("/bin/true", "1"), (1, "", "compare.py: /bin/true: ended at 'phase' with no answer, status 0\n"))
-for words in ((), ("x", "0"), ("x", "y"), ("x", "1", "2")):
-    check(f"the words {words}", ran(*words)[:2], (2, ""))
-helped = subprocess.run(["bash", os.path.join(FOLDER, "run.sh"), "--help"], capture_output=True, timeout=100)
-check("the help", (helped.returncode, b"example: benches/peers/run.sh 300" in helped.stdout), (0, True))
-end("benches/peers")
+@case
+def words():
+    here = os.getcwd()
+    check("no such program", ran("no-such-program"), (1, "", f"compare.py: {here}/no-such-program: No such file or directory\n"))
+    check("not numarun", ran("/bin/true", "1"), (1, "", "compare.py: /bin/true: ended at 'phase' with no answer, status 0\n"))
+    for words in ((), ("x", "0"), ("x", "y"), ("x", "1", "2")):
+        check(f"the words {words}", ran(*words)[:2], (2, ""))
+    helped = subprocess.run(["bash", os.path.join(FOLDER, "run.sh"), "--help"], capture_output=True, timeout=100)
+    check("the help", (helped.returncode, b"example: benches/peers/run.sh 300" in helped.stdout), (0, True))

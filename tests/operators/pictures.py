@@ -5,11 +5,11 @@ import os
 import re
 import xml.etree.ElementTree as xml
 
-from trial import TOP, bad_files, bad_output, check, end, piped, refuses, told, words_and_help
+from trial import TOP, bad_files, bad_output, case, check, piped, refuses, scratch, told, words_and_help
 
 MACHINE = os.path.join(TOP, "examples", "machines", "two-socket.json")
 ANSWERS = os.path.join(TOP, "examples", "scripts", "before-and-after.answers")
-TINY = os.path.join(os.environ["SCRATCH"], "tiny.json")
+TINY = scratch("tiny.json")
 # Two are short of one CPU together: a may have 1-2 and b 2-3, and c, which is not short, 4-7.
 SHORT = "short demand 4 allowed 1-3\nmember a\nmember b\nend\n"
 SHORT_TOLD = "numarun-certificate 2\nrow a 2 655361:1-2\nrow b 2 655361:2-3\nrow c 1 1376257:4-7\nshort a\nshort b\nend\n"
@@ -77,7 +77,7 @@ def answers_of(cpus, containers, last):
 def large(cpus, nodes, containers):
     each = cpus // nodes
     machine = {"nodes": [f"{each * k}-{each * k + each - 1}" for k in range(nodes)], "reserved": "0"}
-    path = os.path.join(os.environ["SCRATCH"], f"machine-{cpus}.json")
+    path = scratch(f"machine-{cpus}.json")
     json.dump(machine, open(path, "w"))
     text = answers_of(cpus, containers, cpus - 2)
     status, drawn, _ = told("numarun-draw-plan", path, "--text", text=text)
@@ -97,7 +97,7 @@ def cores(cpus, threads, nodes):
     of = [range(k * threads, k * threads + threads) for k in range(cpus // threads)]
     lists = [f"{core[0]}-{core[-1]}" for core in of]
     machine = {"nodes": [",".join(lists[n::nodes]) for n in range(nodes)], "reserved": lists[0], "cores": lists}
-    path = os.path.join(os.environ["SCRATCH"], f"cores-{cpus}-{threads}.json")
+    path = scratch(f"cores-{cpus}-{threads}.json")
     json.dump(machine, open(path, "w"))
     text = f"plan total 0\npool 0-{cpus - 1}\nend\n"
     status, drawn, _ = told("numarun-draw-plan", path, "--text", text=text)
@@ -133,40 +133,54 @@ def apart(name, root):
                 return
 
 
-stands("before and after", os.path.join(TOP, "docs", "two-socket.svg"), "--before", MACHINE, ANSWERS)
-stands("before and after as text", os.path.join(TOP, "tests", "operators", "two-socket.txt"), "--before", "--text", MACHINE, ANSWERS)
-apart("before and after", xml.parse(os.path.join(TOP, "docs", "two-socket.svg")).getroot())
-for size in [(8, 2, 3), (32, 2, 6), (256, 8, 24), (1024, 64, 200), (4096, 128, 1024)]:
-    large(*size)
-for size in [(12, 3, 2), (64, 2, 2), (256, 8, 4), (512, 128, 2), (4096, 2, 128), (4096, 8, 16)]:
-    cores(*size)
-
-words_and_help("numarun-draw-plan", "operators/numarun-draw-plan examples/machines/two-socket.json < answers")
-bad_files("numarun-draw-plan", [], [ANSWERS])
-bad_files("numarun-draw-plan", [MACHINE])
-bad_output("numarun-draw-plan", MACHINE, ANSWERS)
-refuses("numarun-draw-plan", ANSWERS, says="before-and-after.answers: line 1: not JSON")
-refuses("numarun-draw-plan", MACHINE, text="", says="standard input: line 1: the answers end with no plan and no shortage")
-refuses("numarun-draw-plan", MACHINE, "--before", text=PLAN, says="standard input: line 5: the answers have no plan before the last outcome")
-bad = os.path.join(os.environ["SCRATCH"], "bad-cores.json")
-for lists, says in [("x", "cores: not an array of lists"), (["0,8", "1,2,9"], "cores: core 1: not as many CPUs as core 0 has"), (["0,1"], "cores: core 0: not"),
-                    (["0,8", "4,3"], "cores: core 1: not"), (["0,8", 7], "cores: core 1: no list of CPUs"), (["0,8", "1,x"], "cores: core 1: 'x' is no CPU"),
-                    (["0,8", "1,9", "9,2"], "cores: core 2: not"), ([""], "cores: core 0: not"), (["0,8", "1,9"], "cores: CPU 2 is in no core"), ([], "cores: CPU 0 is in no core")]:
-    json.dump({**PAIRS, "cores": lists}, open(bad, "w"))
-    refuses("numarun-draw-plan", bad, text=PLAN, says=f"bad-cores.json: {says}")
-refuses("numarun-draw-plan", MACHINE, text=PLAN[:-4], says="standard input: line 4: the plan has no end")
-refuses("numarun-draw-plan", MACHINE, text=PLAN.replace("31", "32"), says="standard input: line 3: the machine has no CPU 32")
-refuses("numarun-draw-plan", MACHINE, text=PLAN.replace("1-2", "1-x"), says="standard input: line 2: '1-x' is no CPU")
-refuses("numarun-draw-plan", MACHINE, text=PLAN.replace("hold", "held"), says="standard input: line 2: 'held a 1-2' is no line")
-refuses("numarun-draw-plan", MACHINE, text=PLAN.replace("1-2", "1-3"), says="standard input: line 3: CPU 3 stands twice")
-refuses("numarun-draw-plan", MACHINE, text=PLAN + "numarun-certificate 1\nrow a 2 x\n", says="standard input: line 6: 'x' is no offer")
+@case
+def worked_examples():
+    stands("before and after", os.path.join(TOP, "docs", "two-socket.svg"), "--before", MACHINE, ANSWERS)
+    stands("before and after as text", os.path.join(TOP, "tests", "operators", "two-socket.txt"), "--before", "--text", MACHINE, ANSWERS)
+    apart("before and after", xml.parse(os.path.join(TOP, "docs", "two-socket.svg")).getroot())
 
 
+@case
+def large_machines():
+    for size in [(8, 2, 3), (32, 2, 6), (256, 8, 24), (1024, 64, 200), (4096, 128, 1024)]:
+        large(*size)
+
+
+@case
+def machines_with_cores():
+    for size in [(12, 3, 2), (64, 2, 2), (256, 8, 4), (512, 128, 2), (4096, 2, 128), (4096, 8, 16)]:
+        cores(*size)
+
+
+@case
+def refusals():
+    words_and_help("numarun-draw-plan", "operators/numarun-draw-plan examples/machines/two-socket.json < answers")
+    bad_files("numarun-draw-plan", [], [ANSWERS])
+    bad_files("numarun-draw-plan", [MACHINE])
+    bad_output("numarun-draw-plan", MACHINE, ANSWERS)
+    refuses("numarun-draw-plan", ANSWERS, says="before-and-after.answers: line 1: not JSON")
+    refuses("numarun-draw-plan", MACHINE, text="", says="standard input: line 1: the answers end with no plan and no shortage")
+    refuses("numarun-draw-plan", MACHINE, "--before", text=PLAN, says="standard input: line 5: the answers have no plan before the last outcome")
+    bad = scratch("bad-cores.json")
+    for lists, says in [("x", "cores: not an array of lists"), (["0,8", "1,2,9"], "cores: core 1: not as many CPUs as core 0 has"), (["0,1"], "cores: core 0: not"),
+                        (["0,8", "4,3"], "cores: core 1: not"), (["0,8", 7], "cores: core 1: no list of CPUs"), (["0,8", "1,x"], "cores: core 1: 'x' is no CPU"),
+                        (["0,8", "1,9", "9,2"], "cores: core 2: not"), ([""], "cores: core 0: not"), (["0,8", "1,9"], "cores: CPU 2 is in no core"), ([], "cores: CPU 0 is in no core")]:
+        json.dump({**PAIRS, "cores": lists}, open(bad, "w"))
+        refuses("numarun-draw-plan", bad, text=PLAN, says=f"bad-cores.json: {says}")
+    refuses("numarun-draw-plan", MACHINE, text=PLAN[:-4], says="standard input: line 4: the plan has no end")
+    refuses("numarun-draw-plan", MACHINE, text=PLAN.replace("31", "32"), says="standard input: line 3: the machine has no CPU 32")
+    refuses("numarun-draw-plan", MACHINE, text=PLAN.replace("1-2", "1-x"), says="standard input: line 2: '1-x' is no CPU")
+    refuses("numarun-draw-plan", MACHINE, text=PLAN.replace("hold", "held"), says="standard input: line 2: 'held a 1-2' is no line")
+    refuses("numarun-draw-plan", MACHINE, text=PLAN.replace("1-2", "1-3"), says="standard input: line 3: CPU 3 stands twice")
+    refuses("numarun-draw-plan", MACHINE, text=PLAN + "numarun-certificate 1\nrow a 2 x\n", says="standard input: line 6: 'x' is no offer")
+
+
+@case
 def shortages():
     """Shortages in text, to the letter, and as a picture: which CPU says what, and that no two texts overlap."""
     json.dump({"nodes": ["0-3", "4-7"], "distances": [[10, 21], [21, 10]], "reserved": "0"}, open(TINY, "w"))
     check("a shortage", told("numarun-draw-plan", TINY, "--text", text=SHORT + SHORT_TOLD), (0, SHORT_DRAWN, ""))
-    path = os.path.join(os.environ["SCRATCH"], "pairs.json")
+    path = scratch("pairs.json")
     json.dump(PAIRS, open(path, "w"))
     check("a shortage of cores", told("numarun-draw-plan", path, "--text", text=SHORT_OF_CORES + SHORT_TOLD), (0, CORES_DRAWN, ""))
     check("a shortage last", told("numarun-draw-plan", TINY, "--text", text=TINY_PLAN + SHORT + SHORT_TOLD), (0, SHORT_DRAWN, ""))
@@ -184,11 +198,12 @@ def shortages():
         apart(f"a shortage {more}", xml.fromstring(drawn))
 
 
-shortages()
-refuses("numarun-draw-plan", TINY, text=SHORT.replace("member b", "member a"), says="standard input: line 3: 'member a' is no line of a shortage")
-refuses("numarun-draw-plan", TINY, text=SHORT.replace("1-3", "1-8"), says="standard input: line 1: the machine has no CPU 8")
-refuses("numarun-draw-plan", TINY, text=SHORT.replace("demand 4", "demand x"), says="standard input: line 1: 'x' is no number")
-refuses("numarun-draw-plan", TINY, text=SHORT[:-4], says="standard input: line 4: the shortage has no end")
-refuses("numarun-draw-plan", TINY, "--before", text=SHORT, says="standard input: line 5: the answers have no plan before the last outcome")
-piped("numarun-draw-plan", MACHINE, ANSWERS)
-end("numarun-draw-plan")
+@case
+def odd_shortages():
+    json.dump({"nodes": ["0-3", "4-7"], "distances": [[10, 21], [21, 10]], "reserved": "0"}, open(TINY, "w"))
+    refuses("numarun-draw-plan", TINY, text=SHORT.replace("member b", "member a"), says="standard input: line 3: 'member a' is no line of a shortage")
+    refuses("numarun-draw-plan", TINY, text=SHORT.replace("1-3", "1-8"), says="standard input: line 1: the machine has no CPU 8")
+    refuses("numarun-draw-plan", TINY, text=SHORT.replace("demand 4", "demand x"), says="standard input: line 1: 'x' is no number")
+    refuses("numarun-draw-plan", TINY, text=SHORT[:-4], says="standard input: line 4: the shortage has no end")
+    refuses("numarun-draw-plan", TINY, "--before", text=SHORT, says="standard input: line 5: the answers have no plan before the last outcome")
+    piped("numarun-draw-plan", MACHINE, ANSWERS)

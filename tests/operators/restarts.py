@@ -5,18 +5,14 @@ import json
 import os
 import signal
 import subprocess
-import sys
 import time
 
-from sites import IN_FOLDERS, QUOTA, Open, Site
+from sites import QUOTA, Open, Site, of
 from numarun_host.cpus import read_list
-from trial import check, end, told
+from trial import case, check, told
 
 
-def of(lines, *words):
-    return [line for line in lines if line.startswith(words)]
-
-
+@case
 def in_a_look():
     """It is told to end while it looks, where nothing happened: nothing is left undone."""
     site = Site()
@@ -30,6 +26,7 @@ def in_a_look():
         check("told to end in a look", agent.end(), (0, []))
 
 
+@case
 def in_a_look_with_more():
     """It is told to end while it has not told of all newcomers: that is left undone, and the next one does it."""
     site = Site({"nodes": ["0-127"], "distances": [[10]], "reserved": "0"})
@@ -46,24 +43,18 @@ def in_a_look_with_more():
     check("the next one", (site.run()[0], len(site.has("c000")[0]) > 0, "" in site.has(*(f"c{k:03}" for k in range(300)))), (0, True, False))
 
 
-LATE = """#!/usr/bin/env python3
-import os, signal, subprocess, sys, time
-site, steps = "{site}", 0
-run = subprocess.Popen(["{program}", *sys.argv[1:]], stdin=subprocess.PIPE, close_fds=False)
-for line in sys.stdin.buffer:
-    steps += line == b"step\\n"
-    if line == b"step\\n" and steps == 1:  # a container comes back in the place of `a`, and its config is not there yet; `b` comes
-        for old, new in (("g/a", "old-a"), ("root/numarun/a", "old-group"), ("anew", "root/numarun/a"), ("b", "g/b")):
-            os.rename(f"{{site}}/{{old}}", f"{{site}}/{{new}}")
-    killed = {killed}
-    if killed:
-        os.kill(os.getppid(), signal.SIGKILL)
-    run.stdin.write(line)
-    run.stdin.flush()
-    if killed:
-        break
-run.stdin.close()
-run.wait()
+LATE = """
+steps += line == b"step\\n"
+if line == b"step\\n" and steps == 1:  # a container comes back in the place of `a`, and its config is not there yet; `b` comes
+    for old, new in (("g/a", "old-a"), ("root/numarun/a", "old-group"), ("anew", "root/numarun/a"), ("b", "g/b")):
+        os.rename(os.path.join(site, old), os.path.join(site, new))
+killed = {when}
+if killed:
+    os.kill(os.getppid(), signal.SIGKILL)
+"""
+BREAKS = """
+if killed:
+    break
 """
 
 
@@ -75,11 +66,8 @@ def late(killed):
     site.make_group(None, group="../anew")
     site.come("b", "2")
     os.rename(site.at("g/b"), site.at("b"))
-    with open(site.at("proxy"), "w") as file:
-        file.write(LATE.format(site=site.folder, program=IN_FOLDERS, killed=killed))
-    os.chmod(site.at("proxy"), 0o755)
     site.online("0,2-7")
-    agent = Open(site, "--program", site.at("proxy"))
+    agent = Open(site, *site.stand_in(LATE.format(when=killed), BREAKS, site=site.folder, steps=0))
     check("killed", agent.process.wait(), -9)
     until = time.monotonic() + 30
     while site.has("a") != ["2"] and time.monotonic() < until:
@@ -91,6 +79,7 @@ def late(killed):
 BEHIND_THE_WRITE, IN_THE_NEXT_LOOK = "steps == 2", "line.startswith(b'create b ')"
 
 
+@case
 def killed_and_told():
     """One that is told at once has what it got so, since nobody else has it, until there is a plan."""
     site = late(BEHIND_THE_WRITE)
@@ -99,6 +88,7 @@ def killed_and_told():
     check("told at once", (status, of(lines, "late", "adopt"), site.has("a", "b")), (0, [f"adopt a {site.at('g/a')} 2"], ["3-4", "2"]))
 
 
+@case
 def killed_behind_a_late_write(killed=BEHIND_THE_WRITE, name="a"):
     """The next agent does not know what the group has by that plan, nor which container it is: nobody gets CPUs that it shares with it."""
     site = late(killed)
@@ -116,11 +106,13 @@ def killed_behind_a_late_write(killed=BEHIND_THE_WRITE, name="a"):
     check("given back", (status, site.has("a", "b")), (0, ["", ""]))
 
 
+@case
 def killed_in_the_next_look():
     """The same where the agent has seen that `a` ended, and is killed before it has looked at the new group."""
     killed_behind_a_late_write(IN_THE_NEXT_LOOK, name=None)
 
 
+@case
 def late_in_a_slice():
     """The same of a group of the system, which is above a pinned container by now: it is let go."""
     site = Site()
@@ -145,6 +137,7 @@ def broken(site, name, text):
     os.rename(site.at("broken"), site.at("g", name, "config.json"))
 
 
+@case
 def unreadable():
     """A config that is no JSON any more leaves a container as it is, also at a start, and nobody waits for it."""
     for text, why in (("{", "not JSON"), ("[]", "no JSON object")):
@@ -173,6 +166,7 @@ def unreadable():
         check(f"{why}: once it can be read", (found, site.has("c"), agent.end()[0]), ([2, 1, 1], ["1"], 0))
 
 
+@case
 def told_again_by_lines():
     """What was told by standard input is as it was until it is told again, or has no process any more."""
     site = Site()
@@ -195,6 +189,7 @@ def told_again_by_lines():
     check("d waits", agent.process.wait(), 1)
 
 
+@case
 def unreadable_while_others_are_reserved():
     """The same where all reserved CPUs go and come back, so that the agent takes up all anew: who has CPUs of its own keeps them."""
     site = Site({"nodes": ["0-7"], "distances": [[10]], "reserved": "7"})
@@ -220,6 +215,7 @@ def unreadable_while_others_are_reserved():
     check("one ends", ({1, 2} <= read_list(site.has("s")[0], "s"), agent.end()[0]), (True, 1))
 
 
+@case
 def unreadable_on_the_pool():
     """The same of one that has none of its own: it is on the pool of each plan. Its nodes of memory are left as they are."""
     site = Site({"nodes": ["0-3", "4-7"], "distances": [[10, 21], [21, 10]], "reserved": "0"})
@@ -243,6 +239,7 @@ CANNOT_BE = [("E58 Missing root", json.dumps({"ociVersion": "1.0.2", "linux": {"
              ("E66 QuotaTooLarge", config({"quota": 5000 * QUOTA}))]
 
 
+@case
 def refused_for_good():
     """A config that can't be had leaves a container as it is, also at a start, and nobody is given its CPUs."""
     for fault, text in CANNOT_BE:
@@ -264,6 +261,7 @@ def refused_for_good():
         check(f"{fault}: once it can be had", (site.has("a") in (["1"], ["2"]), site.has("c"), agent.end()[0]), (True, ["3-7"], 0))
 
 
+@case
 def refused_at_first():
     """One that comes with such a config runs on the pool, and not on the CPUs of others. (Who asks for more than there are keeps what it has.)"""
     for fault, text in CANNOT_BE:
@@ -275,11 +273,3 @@ def refused_at_first():
             status, lines = site.run(rounds="2")
             check(f"{fault}, {has!r}", (status, of(lines, "refused"), site.has("a", "new")[0] in ("1-2", "4-5"), read_list(site.has("new")[0], "new")),
                   (1, [f"refused {fault}: new {site.at('g/new')}: it runs on the pool"], True, set(range(8)) - read_list(site.has("a")[0], "a")))
-
-
-PARTS = (in_a_look, in_a_look_with_more, killed_and_told, killed_behind_a_late_write, killed_in_the_next_look, late_in_a_slice, told_again_by_lines, unreadable,
-         unreadable_while_others_are_reserved, unreadable_on_the_pool, refused_for_good, refused_at_first)
-for part in PARTS:
-    if not sys.argv[1:] or part.__name__ in sys.argv[1:]:
-        part()
-end("numarun-agent and what the one before left")

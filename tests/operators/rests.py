@@ -4,12 +4,11 @@ pool; and what was taken is given back."""
 import json
 import os
 import shutil
-import sys
 
 from sites import Open, Site
 from numarun_host import slices
 from numarun_host.cpus import print_list, read_list
-from trial import check, end, refuses, told
+from trial import case, check, refuses, told
 
 REST = ("--rest", "system.slice,user.slice,init.scope", "--rest", "machine.slice")
 SLICES = ("system.slice", "user.slice", "machine.slice")
@@ -27,6 +26,7 @@ def effective(site, group):
     return read_list(site.file(group), group) & above or above
 
 
+@case
 def slices_with_containers():
     """As podman and docker have it by systemd: a scope in a slice that is to be held on the pool."""
     site = Site()
@@ -48,6 +48,7 @@ def slices_with_containers():
     check("one that asks for none", (site.file("machine.slice/libpod-web.scope"), len(read_list(pool, "")), "0" in pool), (pool, 4, True))
 
 
+@case
 def comes_later():
     """A container comes into a slice that is on the pool, and ends."""
     site = Site()
@@ -70,6 +71,7 @@ def comes_later():
     check("on the pool again", (site.file("system.slice"), agent.end()[0]), ("0-6", 0))
 
 
+@case
 def held_before():
     """A slice that an agent without such care has left on the pool, above a container."""
     site = Site()
@@ -81,6 +83,7 @@ def held_before():
     check("--rest is not said any more", (status, site.file("machine.slice")), (0, ""))
 
 
+@case
 def cannot_be():
     """A slice that can't be let go, and one with processes of its own, are named and counted."""
     site = Site({"nodes": ["0-7,4000-4001"], "distances": [[10]], "reserved": "0"})
@@ -103,6 +106,7 @@ def cannot_be():
           [f"refused {path}: it can't be on the pool, since pod is below it; its own processes run on all CPUs"])
 
 
+@case
 def squeezed():
     """A pinned container that has not in effect what it was given is said at each look, and counted."""
     site = Site()
@@ -123,6 +127,7 @@ def squeezed():
     check("and no more", ("\nnumarun_containers_squeezed 0\n" in open(site.at("figures")).read(), agent.end()[0]), (True, 0))
 
 
+@case
 def ids():
     for group, expected in [("system.slice", "system.slice"), ("system.slice/a@b.service", "system.slice+a_b.service-"), ("a" * 70, "a" * 55 + "-")]:
         found = slices.id_of(group)
@@ -130,6 +135,7 @@ def ids():
     check("two groups", slices.id_of("a/b@c") != slices.id_of("a/b_c"), True)
 
 
+@case
 def released():
     """All that was taken is given back, as it was before; not while an agent runs."""
     site = Site()
@@ -159,9 +165,3 @@ def released():
         with open(site.at("work/taken.json"), "w") as file:
             file.write(text)
         check(f"a record that is none: {text}", (told("numarun-agent", *words), site.run(*REST)[0]), ((0, "", ""), 0))
-
-
-for part in (slices_with_containers, comes_later, held_before, cannot_be, squeezed, ids, released):
-    if not sys.argv[1:] or part.__name__ in sys.argv[1:]:
-        part()
-end("numarun-agent beside the system's groups")

@@ -1,127 +1,190 @@
-"""What the tests of the agent share: a machine in plain folders, and an agent that runs."""
+"""What the tests of the agent share: a machine in plain folders, an agent that runs, and a program that stands in for numarun."""
+
+from __future__ import annotations
 
 import json
 import os
-import shutil
 import signal
 import subprocess
-import tempfile
+import sys
+import textwrap
 import threading
+from typing import Any, Dict, List, Mapping, Optional, Tuple, Union
 
-from trial import TOP, check, command, told
+from trial import OPERATORS, TOP, check, command, scratch, text_of, told, written
 
-SCRATCH = os.environ.get("SCRATCH") or tempfile.mkdtemp()
 IN_FOLDERS = os.path.join(os.path.dirname(os.path.abspath(__file__)), "in_folders.sh")
 QUOTA = 100000
-PATIENCE = 40  # seconds
+PATIENCE = 60  # seconds in which a line comes that is waited for
+EIGHT_CPUS: Mapping[str, object] = {"nodes": ["0-7"], "distances": [[10]], "reserved": "0"}
+# By hand each container that asks for CPUs gets some, however few are left.
+ALL_PINNED = ("--pin", "all", "--pool-least", "0")
+NOT_TOLD = ("--listen", "--defaults")  # words of the tests alone: the events are those of standard input, and what the agent does by itself
+Wanted = Union[int, float, str]  # CPUs by their number, or a list of them
 
 
-def untimed(text):
+def untimed(text: str) -> List[str]:
     """The lines of the agent, without their times."""
     return [line.split(" ", 1)[1] for line in text.splitlines()]
 
 
-class Site:
-    """A machine: bundles in `g`, groups in `root`, and a list of online CPUs."""
+def of(lines: List[str], *words: str) -> List[str]:
+    """Those lines that begin so."""
+    return [line for line in lines if line.startswith(words)]
+
+
+def section_of(cpus: Wanted) -> Dict[str, object]:
+    """A config's CPU section by which a container asks for so many CPUs, or for these, or for none."""
+    if isinstance(cpus, str):
+        return {"cpus": cpus}
+    return {"quota": int(cpus * QUOTA), "period": QUOTA} if cpus else {}
+
+
+def config_of(section: Mapping[str, object], **more: object) -> Dict[str, object]:
+    linux = more.pop("linux", {})
+    assert isinstance(linux, dict)
+    return {"ociVersion": "1.0.2", "root": {"path": "r"}, "linux": {"resources": {"cpu": dict(section)}, **linux}, **more}
+
+
+class Tree:
+    """A machine in a folder: its file, bundles in `g`, groups in `root/numarun`, and a list of online CPUs."""
+
+    def __init__(self, folder: str, machine: Mapping[str, object], root: bool = True) -> None:
+        self.folder, self.went = folder, 0
+        for name in ("g", "gone", *(("root/numarun",) if root else ())):
+            os.makedirs(self.at(name))
+        written(self.at("machine.json"), json.dumps(machine))
+
+    def at(self, *names: str) -> str:
+        return os.path.join(self.folder, *names)
+
+    def put_whole(self, path: str, text: str) -> None:
+        """A file in the place of another one, of which nobody sees a part."""
+        os.rename(written(self.at("written"), text), path)
+
+    def online(self, cpus: str) -> None:
+        self.put_whole(self.at("online"), f"{cpus}\n")
+
+    def make_group(self, name: Optional[str], cpus: str = "", group: Optional[str] = None) -> None:
+        path = self.at("root", group.lstrip("/") if group else f"numarun/{name}")
+        os.makedirs(path)
+        written(os.path.join(path, "cpuset.cpus"), cpus)
+        written(os.path.join(path, "cpuset.mems"), "")
+
+    def put(self, group: str, file: str, text: str) -> None:
+        """A file of a group."""
+        self.put_whole(self.at("root", group, file), f"{text}\n")
+
+    def file(self, group: str, file: str = "cpuset.cpus") -> str:
+        return text_of(self.at("root", group, file)).strip()
+
+    def put_away(self, path: str) -> None:
+        """A folder goes at once, as in the kernel. It is kept elsewhere, so that the next one in its place has another inode."""
+        self.went += 1
+        os.rename(path, self.at("gone", str(self.went)))
+
+
+class Site(Tree):
+    """A machine of the case that runs."""
 
     count = 0
 
-    def __init__(self, machine=None, root=True):
+    def __init__(self, machine: Optional[Mapping[str, object]] = None, root: bool = True) -> None:
         Site.count += 1
-        self.folder, self.went = os.path.join(SCRATCH, f"site-{os.getpid()}-{Site.count}"), 0
-        shutil.rmtree(self.folder, ignore_errors=True)
-        os.makedirs(os.path.join(self.folder, "g"))
-        if root:
-            os.makedirs(os.path.join(self.folder, "root", "numarun"))
-        machine = machine or {"nodes": ["0-7"], "distances": [[10]], "reserved": "0"}
-        json.dump(machine, open(self.at("machine.json"), "w"))
-        self.online(machine["nodes"][-1].replace("8-", "0-"))
+        machine = machine or EIGHT_CPUS
+        super().__init__(scratch(f"site-{Site.count}"), machine, root)
+        nodes = machine["nodes"]
+        assert isinstance(nodes, list)
+        self.online(nodes[-1].replace("8-", "0-"))
 
-    def at(self, *names):
-        return os.path.join(self.folder, *names)
-
-    def online(self, cpus):
-        with open(self.at("online.new"), "w") as file:
-            file.write(cpus + "\n")
-        os.rename(self.at("online.new"), self.at("online"))
-
-    def make_group(self, name, cpus="", group=None):
-        path = self.at("root", group.lstrip("/") if group else f"numarun/{name}")
-        os.makedirs(path)
-        open(os.path.join(path, "cpuset.cpus"), "w").write(cpus)
-        open(os.path.join(path, "cpuset.mems"), "w").close()
-
-    def put(self, group, file, text):
-        """A file of a group, of which nobody sees a part."""
-        with open(self.at("other"), "w") as other:
-            other.write(text + "\n")
-        os.rename(self.at("other"), self.at("root", group, file))
-
-    def file(self, group, file="cpuset.cpus"):
-        return open(self.at("root", group, file)).read().strip()
-
-    def configure(self, name, cpus, **more):
+    def configure(self, name: str, cpus: Wanted, **more: Any) -> None:
         """Another config in the place of the one that is there."""
         self.come("another", cpus, group=False, **more)
         os.rename(self.at("g/another/config.json"), self.at("g", name, "config.json"))
         os.rmdir(self.at("g/another"))
 
-    def come(self, name, cpus=0, group=True, has="", **more):
+    def come(self, name: str, cpus: Wanted = 0, group: bool = True, has: str = "", **more: object) -> None:
+        config = config_of(section_of(cpus), **more)
         if group:
-            self.make_group(name, has, more.get("linux", {}).get("cgroupsPath"))
-        section = {"cpus": cpus} if isinstance(cpus, str) else {"quota": int(cpus * QUOTA), "period": QUOTA} if cpus else {}
-        config = {"ociVersion": "1.0.2", "root": {"path": "r"}, "linux": {"resources": {"cpu": section}, **more.pop("linux", {})}, **more}
+            path = config["linux"].get("cgroupsPath")  # type: ignore[attr-defined]
+            self.make_group(name, has, path)
         os.makedirs(self.at("new"))
-        json.dump(config, open(self.at("new", "config.json"), "w"))
+        written(self.at("new", "config.json"), json.dumps(config))
         os.rename(self.at("new"), self.at("g", name))
 
-    def write(self, name, cpus):
+    def write(self, name: str, cpus: str) -> None:
         """Somebody else's write."""
         self.put(f"numarun/{name}", "cpuset.cpus", cpus)
 
-    def go(self, name):
-        """Its folders are kept elsewhere, so that the next group in this place has another inode, as in the kernel."""
+    def go(self, name: str) -> None:
         for path in (self.at("g", name), self.at("root", "numarun", name)):
-            self.went += 1
-            os.makedirs(self.at("gone"), exist_ok=True)
-            os.rename(path, self.at("gone", str(self.went)))
+            self.put_away(path)
 
-    def has(self, *names):
-        return [open(self.at("root", "numarun", name, "cpuset.cpus")).read().strip() for name in names]
+    def has(self, *names: str) -> List[str]:
+        return [self.file(f"numarun/{name}") for name in names]
 
-    def words(self, *more):
+    def words(self, *more: str) -> List[str]:
         words = [self.at("machine.json"), "--program", IN_FOLDERS, "--cgroup", self.at("root"), "--work", self.at("work"), "--pause", "0.1"]
         watching = ["--watch", self.at("g"), "--online", self.at("online")] if "--listen" not in more else []
-        all_pinned = ["--pin", "all", "--pool-least", "0"] if "--defaults" not in more else []
-        return words + watching + all_pinned + [word for word in more if word not in ("--listen", "--defaults")]
+        all_pinned = ALL_PINNED if "--defaults" not in more else ()
+        return [*words, *watching, *all_pinned, *(word for word in more if word not in NOT_TOLD)]
 
-    def run(self, *more, text="", rounds="1"):
+    def run(self, *more: str, text: str = "", rounds: str = "1") -> Tuple[int, List[str]]:
         status, out, err = told("numarun-agent", *self.words(*more, "--rounds", rounds), text=text, env={**os.environ, "GROUPS_LOG": self.at("log")})
         check("nothing on standard error", err, "")
         return status, untimed(out)
 
-    def log(self):
+    def log(self) -> List[str]:
         """The writes of CPUs since the last time."""
-        lines = open(self.at("log")).read().splitlines() if os.path.exists(self.at("log")) else []
-        open(self.at("log"), "w").close()
+        lines = text_of(self.at("log")).splitlines() if os.path.exists(self.at("log")) else []
+        written(self.at("log"), "")
         return lines
+
+    def stand_in(self, before: str, after: str = "", **names: object) -> Tuple[str, str]:
+        """A program in the place of numarun, as words for the agent: it sees each `line` before and after that is passed on to numarun, and
+        knows these names."""
+        known = "\n".join(f"{name} = {value!r}" for name, value in names.items())
+        before, after = (textwrap.indent(textwrap.dedent(code), "    ") for code in (before, after))
+        text = STAND_IN.format(python=sys.executable, program=IN_FOLDERS, known=known, before=before, after=after)
+        return "--program", written(self.at("stand-in"), text, 0o755)
+
+
+STAND_IN = """#!{python}
+import os, signal, subprocess, sys, time
+run = subprocess.Popen([{program!r}, *sys.argv[1:]], stdin=subprocess.PIPE, close_fds=False)
+{known}
+for line in sys.stdin.buffer:
+{before}
+    run.stdin.write(line)
+    run.stdin.flush()
+{after}
+run.stdin.close()
+run.wait()
+"""
 
 
 class Open:
     """An agent that runs; what it says is read as it comes."""
 
-    def __init__(self, site, *more, stdin=subprocess.DEVNULL):
+    def __init__(self, site: Site, *more: str, stdin: int = subprocess.DEVNULL) -> None:
         words = command("numarun-agent", *site.words(*more))
         here = {**os.environ, "GROUPS_LOG": site.at("log")}
         self.process = subprocess.Popen(words, stdin=stdin, stdout=subprocess.PIPE, text=True, cwd=TOP, env=here)
-        self.lines = []
-        self.watch = threading.Timer(PATIENCE, self.process.kill)  # where a line is waited for that does not come
+        self.lines: List[str] = []
+        self.watch = threading.Timer(PATIENCE, self.process.kill)
         self.watch.daemon = True
         self.watch.start()
 
-    def until(self, beginning):
+    def tell(self, text: str) -> None:
+        """Lines for its standard input."""
+        assert self.process.stdin
+        self.process.stdin.write(text)
+        self.process.stdin.flush()
+
+    def until(self, beginning: str) -> List[str]:
         """The lines up to one that begins so."""
-        lines = []
+        assert self.process.stdout
+        lines: List[str] = []
         for line in self.process.stdout:
             lines.append(line.split(" ", 1)[1].rstrip("\n"))
             self.lines.append(lines[-1])
@@ -130,8 +193,17 @@ class Open:
         check(f"a line {beginning!r}", lines, "one of them")
         return lines
 
-    def end(self, number=signal.SIGTERM):
+    def end(self, number: int = signal.SIGTERM) -> Tuple[int, List[str]]:
+        assert self.process.stdout
         self.process.send_signal(number)
         rest = untimed(self.process.stdout.read())
         self.watch.cancel()
         return self.process.wait(), rest
+
+
+def begun(tree: Tree, *more: str) -> subprocess.Popen[bytes]:
+    """An agent over a tree, with its defaults but for the pause; what it says is added to the file `out`."""
+    words = [tree.at("machine.json"), "--program", IN_FOLDERS, "--cgroup", tree.at("root"), "--work", tree.at("work"), "--watch", tree.at("g"),
+             "--online", tree.at("online"), "--pause", "0.02", *more]
+    with open(tree.at("out"), "a", encoding="utf-8") as out:
+        return subprocess.Popen([sys.executable, "-B", os.path.join(OPERATORS, "numarun-agent"), *words], stdout=out, stderr=out)

@@ -5,13 +5,12 @@ from __future__ import annotations
 import json
 import os
 import re
-import sys
 import time
 from typing import Dict, Tuple
 
 from sites import Open, Site
 from numarun_host.status import text_of
-from trial import check, end, refuses, told
+from trial import case, check, refuses, told
 
 
 def asked(site: Site, *words: str) -> Tuple[int, str, str]:
@@ -31,6 +30,7 @@ def full(site: Site, *words: str) -> Open:
     return agent
 
 
+@case
 def ended() -> None:
     """What it knew as it ended, in the same table, with a line that says so."""
     site = Site()
@@ -47,6 +47,7 @@ def ended() -> None:
     check("no socket", (asked(site)[0], "no agent answers: No such file or directory; this is" in asked(site)[2]), (1, True))
 
 
+@case
 def killed() -> None:
     """What it knew when something happened last: who came, what was done about it, and what was settled without a word."""
     site = Site()
@@ -71,6 +72,7 @@ def killed() -> None:
     check("nothing that is settled", known(site)["undone"], [])
 
 
+@case
 def quiet() -> None:
     """Where nothing happens nothing is written."""
     site = Site()
@@ -86,6 +88,7 @@ def quiet() -> None:
     agent.end()
 
 
+@case
 def certified() -> None:
     """The certificate of the last plan is named, as long as the certificates are kept."""
     site = Site()
@@ -100,6 +103,7 @@ def certified() -> None:
     check("before there is one", text_of({"pool": "-", "reserved": "0", "offline": "-", "plan": None}), "pool -, reserved 0, offline -\nno plan yet")
 
 
+@case
 def lifted() -> None:
     """Whose limit is lifted, and which that was."""
     site = Site()
@@ -110,6 +114,7 @@ def lifted() -> None:
     check("the limit", isinstance(containers, list) and containers[0]["lifted"], "200000 100000")
 
 
+@case
 def none_left() -> None:
     """No state, or what is none: a line with the reason."""
     site = Site()
@@ -127,9 +132,3 @@ def none_left() -> None:
     site.come("a", 1)
     status, lines = site.run()
     check("one that can't be written", (status, [line for line in lines if "status.json" in line]), (1, [f"failed {site.at('work/status.json')}: Is a directory"]))
-
-
-for part in (ended, killed, quiet, certified, lifted, none_left):
-    if not sys.argv[1:] or part.__name__ in sys.argv[1:]:
-        part()
-end("numarun-agent status")

@@ -1,6 +1,6 @@
 #!/usr/bin/env bash
-# Checks the types of operators/ by Debian's mypy, strictly, its names by pyflakes, and that no function is longer than 40 lines. What is not
-# there is installed by apt-get, or passed over and named where it can't be had.
+# Checks the types of operators/, and of what its tests share, by Debian's mypy, strictly, their names by pyflakes, and that no function is longer
+# than 40 lines. What is not there is installed by apt-get, or passed over and named where it can't be had.
 set -euo pipefail
 top=$(cd "$(dirname "$0")/../.." && pwd)
 
@@ -14,14 +14,18 @@ have() {
 }
 
 cd "$top/operators"
-programs=(numarun-agent numarun-hook numarun-dry-run numarun-explain numarun-draw-plan numarun-describe)
+programs=(numarun-agent numarun-hook numarun-dry-run numarun-explain numarun-draw-plan numarun-describe numarun-runc)
 if have mypy mypy; then
     mypy --strict --no-error-summary --cache-dir=/dev/null --scripts-are-modules numarun_host "${programs[@]}"
 fi
-if have pyflakes3 pyflakes3; then
-    pyflakes3 numarun_host "${programs[@]}"
+tests=("$top"/tests/operators/{run,trial,sites,worlds,kills,troubles,model,decisions,decided,parts,odd,weeks,mutants,log_words}.py)
+if have mypy mypy; then
+    MYPYPATH=. mypy --strict --no-error-summary --cache-dir=/dev/null "${tests[@]}"
 fi
-python3 -B - numarun_host/*.py <<'SCRIPT'
+if have pyflakes3 pyflakes3; then
+    pyflakes3 numarun_host "${programs[@]}" "$top"/tests/operators/*.py
+fi
+python3 -B - numarun_host/*.py "$top"/tests/operators/*.py <<'SCRIPT'
 import ast
 import sys
 

@@ -18,7 +18,8 @@ import tree
 from tree import CPU, RESERVED, ROOT, TOP, read, say, write
 
 FOLDER, WORK, OUT = "/tmp/g", "/run/numarun", "/tmp/agent-out"
-MOMENTS = range(8, 41)  # how often it is killed: at least, and at most where less was seen than is wanted
+LEAST = 8       # how often it is killed at least
+ENOUGH = 1200   # seconds after which it is killed no more, though less was seen than is wanted
 WANTED = {"adopt": 3, "plan": 5}
 PATIENCE = 30  # seconds that a container stays at least, unless it has had its CPUs before
 NEAR = 3      # seconds in which a line of the agent is of the same matter as a look
@@ -151,18 +152,25 @@ def is_enough(world):
     return all(said[kind] >= least for kind, least in WANTED.items()) and 4 * len(world.had) > world.count and world.changed > 0
 
 
+def pace_of(world):
+    """The seconds that an agent takes here for a start, a look and its plan."""
+    began = time.monotonic()
+    assert agent("--rounds", "1").wait() in (0, 1), lines()[-20:]
+    return time.monotonic() - began
+
+
 def killed_by_chance(world):
-    """How often it was killed. A slow machine sees less between two kills, so it is killed more often there."""
+    """How often it was killed. On a slow machine there is more time between two kills, and more kills, for it sees as much as a fast one."""
     threads = [threading.Thread(target=way) for way in (world.change, world.watch)]
     for thread in threads:
         thread.start()
-    killed = 0
-    while killed < MOMENTS.start or killed < MOMENTS.stop and not is_enough(world):
+    killed, pace, until = 0, max(1.5, pace_of(world)), time.monotonic() + ENOUGH
+    while killed < LEAST or not is_enough(world) and time.monotonic() < until:
         killed += 1
         before, run, end = os.path.getsize(OUT), agent(), time.monotonic() + 30
         while os.path.getsize(OUT) == before and time.monotonic() < end:
             time.sleep(0.01)
-        time.sleep(world.random.uniform(0, 1.5))
+        time.sleep(world.random.uniform(0, pace))
         if world.random.random() < 0.5:
             flap(world)
             time.sleep(world.random.uniform(0, 0.5))

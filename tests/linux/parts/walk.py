@@ -22,8 +22,9 @@ TOP, OUT, OUT_OF_AGENT = tree.REPOSITORY, "/tmp/typed", "/tmp/agent"
 OPERATORS = sorted(f"operators/{name}" for name in os.listdir(f"{TOP}/operators") if name.endswith(".md"))
 PAGES = {name: read(f"{TOP}/{name}") for name in ("README.md", *OPERATORS)}
 HERE = {"PATH": "/usr/local/bin:/usr/bin:/bin:/app", "HOME": "/root", "TERM": "dumb"}
-# What is not typed: it wants the toolchain, or a service manager.
-ELSEWHERE = ("bash examples/quick-look.sh", "bash tests/all.sh", "bash build.sh", "systemctl ", "journalctl ")
+# What is not typed: it wants the toolchain, what makes packages, or a service manager.
+ELSEWHERE = ("bash examples/quick-look.sh", "bash tests/all.sh", "bash build.sh", "operators/install.sh --deb", "systemctl ", "journalctl ")
+BY_OTHERS = ("docker run ", "ctr run ")  # typed in the parts of docker and of containerd
 done = set()
 
 
@@ -171,7 +172,7 @@ def has_own(pid, many):
 def by_readme():
     """README's lines for an agent, with a container of crun's, and what undoes them."""
     pid, _ = process_of_crun("first", {"quota": 200000, "period": 100000, "mems": "1"})
-    assert "hold first 2-3" in typed(command("numarun-agent /etc/numarun/machine.json --watch")) and tree.allowed(pid) == tree.CPUS, read(OUT)
+    assert "hold first 2-3" in typed(command("numarun-agent /etc/numarun/machine.json --runtime")) and tree.allowed(pid) == tree.CPUS, read(OUT)
     line = command("operators/numarun-agent host.json")
     done.add(line)
     agent = begun(line)
@@ -241,9 +242,9 @@ def mask(cpus):
 def a_service():
     """A service that is described as a container: it has CPUs of its own, and the other one of its slice has not."""
     service, other = (watched.group(f"system.slice/{name}.service") for name in ("postgresql", "ssh"))
-    for beginning in ("mkdir -p /etc/numarun/services", "echo '{\"cgroup-path\"", "echo '{\"ociVersion\""):
+    for beginning in ("numarun-agent add-service", "mkdir -p /etc/numarun/services", "echo '{\"cgroup-path\"", "echo '{\"ociVersion\""):
         typed(command(beginning))
-    agent = begun(of_the_unit("--watch /etc/numarun/services"))
+    agent = begun(of_the_unit(""))
     until(agent, lambda: has_own(service, 4) and not tree.allowed(other) & tree.allowed(service), "a service")
     ended(agent)
     typed(command("numarun-agent release"))
@@ -257,14 +258,17 @@ def taken_away():
 
 
 def package():
-    """A package, in a database of packages that knows what it depends on."""
-    typed(command("operators/install.sh --deb"))
+    """The package that was made outside, in a database of packages that knows what it depends on."""
+    line = command("dpkg -i")
+    if not [name for name in os.listdir("/") if name.endswith(".deb")]:
+        done.add(line)
+        return say("walk: the package is passed over, as none could be made")
     for name in ("info", "updates", "triggers"):
         os.makedirs(f"/var/lib/dpkg/{name}")
     with open("/var/lib/dpkg/status", "w") as file:
         for name, version in (("python3", "3.11"), ("libc6", "2.36")):
-            file.write(f"Package: {name}\nStatus: install ok installed\nMaintainer: nobody\nArchitecture: amd64\nVersion: {version}\nDescription: there\n\n")
-    typed(command("dpkg -i"))
+            file.write(f"Package: {name}\nStatus: install ok installed\nMaintainer: nobody\nArchitecture: amd64\nMulti-Arch: allowed\nVersion: {version}\nDescription: there\n\n")
+    typed(line, folder="/")
     assert "agent" in typed("numarun-agent --help")
     typed("numarun-describe host --cores > /etc/numarun/machine.json")
     typed("dpkg -r numarun")
@@ -275,10 +279,11 @@ def all_typed():
     """No command of the pages is left."""
     for page in PAGES:
         for line, _ in lines_of(page):
-            assert line in done or line.startswith(ELSEWHERE), (page, line)
+            assert line in done or line.startswith(ELSEWHERE + BY_OTHERS), (page, line)
 
 
-os.symlink("/proc/self/fd", "/dev/fd")  # as udev makes it
+if not os.path.lexists("/dev/fd"):
+    os.symlink("/proc/self/fd", "/dev/fd")  # as udev makes it
 of_podman.prepare()
 tree.clear()
 for step in (transcripts, program, on_a_real_kernel, installed, pictures, by_readme, by_the_unit, a_service, taken_away, package, all_typed):

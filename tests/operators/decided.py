@@ -1,0 +1,672 @@
+"""Tries by hand, without a process, what the parts of the agent decide: what a config asks for, which home a container gets, which groups of the
+system are held, what is counted and kept, and what is said. Expected values are worked out by hand from the pages of operators/."""
+
+from __future__ import annotations
+
+import dataclasses
+import json
+import os
+from typing import Any, Dict, List, Mapping, Optional, Sequence, Tuple
+
+from trial import case, check, scratch, written
+from numarun_host import configs, homes, placing, sightings, slices
+from numarun_host.commands import Answer, Ask, Command, LeaveFigures, RunPool, SaveTaken, Say, Start, Steps, T, Taken, Tell, Write
+from numarun_host.configs import Demand, Pin
+from numarun_host.cpus import Cpus, print_list, read_list
+from numarun_host.decide import answer_to_hook, decide, figures_of, reserved_of, squeezed_of
+from numarun_host.ledger import Container, Kind, Ledger, Pause, Problem, Settings, Sighting, State, Topic, is_undone, report, say_unsaid
+from numarun_host.machine import Machine
+from numarun_host.script import Refused
+from numarun_host.seen import Double, Folder, Found, Group, Look, Missing, NoGroup, Online, Told
+from numarun_host.telling import Reply, Turn
+
+# Four nodes of two cores with two CPUs each; 0 is at 15 from 1, and 2 from 3.
+FOUR: Mapping[str, object] = {
+    "nodes": ["0-3", "4-7", "8-11", "12-15"], "distances": [[10, 15, 30, 30], [15, 10, 30, 30], [30, 30, 10, 15], [30, 30, 15, 10]],
+    "reserved": "0-1", "cores": [f"{cpu}-{cpu + 1}" for cpu in range(0, 16, 2)]}
+EIGHT: Mapping[str, object] = {"nodes": ["0-7"], "distances": [[10]], "reserved": "0"}
+QUOTA = 100000
+
+
+ANSWERS = {"create": ["pid 2"], "adopt": ["pid 2"], "begin": ["plan total 0", "pool 0-7", "end"], "step": ["done"]}
+Config = Mapping[str, object]
+
+
+def machine_of(members: Mapping[str, object]) -> Machine:
+    return Machine(written(scratch("machine.json"), json.dumps(members)))
+
+
+def config_of(annotations: Optional[Mapping[str, object]] = None, env: object = None, **cpu: Any) -> Dict[str, object]:
+    more = {**({"annotations": annotations} if annotations else {}), **({"process": {"env": env}} if env is not None else {})}
+    return {"linux": {"resources": {"cpu": cpu}}, **more}
+
+
+def asks(count: int, **cpu: Any) -> Dict[str, object]:
+    return config_of(quota=count * QUOTA, period=QUOTA, **cpu)
+
+
+def cpus(text: str) -> Cpus:
+    return read_list(text, "")
+
+
+def said(commands: Sequence[Command]) -> List[str]:
+    return [command.line for command in commands if isinstance(command, Say)]
+
+
+def done(steps: Steps[T], answers: Mapping[str, Sequence[str]] = {}) -> Tuple[List[Command], T]:
+    """What is yielded, and what it ends with; a line for numarun is answered as told here by its first word, or by `ok`."""
+    commands: List[Command] = []
+    try:
+        command = next(steps)
+        while True:
+            commands.append(command)
+            line = command.line if isinstance(command, Ask) else command.verb.value if isinstance(command, Tell) else ""
+            known: Dict[str, Sequence[str]] = {**ANSWERS, **answers}
+            command = steps.send(Answer(tuple(known.get(line, known.get(line.split(" ")[0], ["ok"])))))
+    except StopIteration as end:
+        found: T = end.value
+        return commands, found
+
+
+def sighting(path: str = "/t/a", config: Optional[Mapping[str, object]] = None, **group: object) -> Sighting:
+    return Sighting(Told("/b", "/f"), ("s",), config or {}, Group(path, 1, **group))  # type: ignore[arg-type]
+
+
+def container(name: str, state: State, given: Optional[int] = None, **more: object) -> Container:
+    demand = Demand(asks(given) if given else {}, given)
+    parts: Dict[str, object] = {"name": name, "seen": sighting(f"/t/{name}"), "state": state, "demand": demand, "given": demand, **more}
+    return Container(**parts)  # type: ignore[arg-type]
+
+
+def ledger_of(*containers: Container, members: Mapping[str, object] = EIGHT, **settings: object) -> Ledger:
+    machine = machine_of(members)
+    found = Ledger(Settings(machine, "m", **{"root": "/t", **settings}), frozenset(range(len(machine.nodes))))  # type: ignore[arg-type]
+    found.reserved, found.running, found.started = machine.reserved, machine.present, True
+    found.shown = found.running
+    for one in containers:
+        found.put(one)
+    return found
+
+
+# What a config asks for.
+
+
+@case
+def who_asks() -> None:
+    """How many CPUs a config asks for, by the rule; in whole cores of two where the machine has such."""
+    single, pairs = machine_of(EIGHT), machine_of(FOUR)
+    pin = {"numarun.pin": "true"}
+    table: Sequence[Tuple[Config, Machine, object]] = (
+        (config_of(), single, (None, None, None)), ({}, single, (None, None, None)), (asks(2), single, (2, 2, None)),
+        (config_of(quota=150000, period=QUOTA), single, (2, None, None)), (config_of(pin, quota=150000, period=QUOTA), single, (2, None, 2)),
+        (config_of(pin, quota=QUOTA), single, (1, 1, 1)), (config_of(quota=1, period=QUOTA), single, (1, None, None)),
+        (asks(3), pairs, (4, 4, None)), (asks(4), pairs, (4, 4, None)), (config_of(cpus="3-5"), single, (3, 3, None)),
+        (config_of(cpus="0-2"), single, (2, 2, None)), (config_of(cpus="0"), single, (1, 1, None)), (config_of(cpus=" ,\t\n"), single, (None, None, None)),
+        (config_of(cpus="2-5"), pairs, (4, 4, None)), (config_of(cpus="3-6"), pairs, (2, 2, None)), (config_of(pin, cpus="3-4"), single, (2, 2, 2)),
+        (config_of(cpus=7), single, (None, None, None)), (config_of(quota=-1, period=QUOTA), single, (None, None, None)),
+        (config_of(quota=0, period=QUOTA), single, (None, None, None)), (config_of(quota=True, period=QUOTA), single, (None, None, None)),
+        (config_of(quota="2", period=QUOTA), single, (None, None, None)), (config_of(quota=QUOTA, period=-5), single, (None, None, None)),
+        (config_of(quota=QUOTA, period=True), single, (None, None, None)), (config_of(quota=QUOTA, period=0), single, (1, 1, None)),
+        (config_of(env=["NUMARUN_PIN=true"], quota=2 * QUOTA, period=QUOTA), single, (2, 2, 2)),
+    )
+    for config, machine, expected in table:
+        check(f"who asks: {config}", tuple(configs.asked(config, rule, machine) for rule in (Pin.ALL, Pin.WHOLE, Pin.ANNOTATED)), expected)
+    try:
+        configs.asked(config_of(cpus="x"), Pin.ALL, single)
+        check("a list that is none", "taken", "refused")
+    except Refused:
+        pass
+
+
+@case
+def wishes() -> None:
+    """What one says of itself: an annotation comes before the environment, and of that the last counts."""
+    table: Sequence[Tuple[Config, object]] = (
+        (config_of({"numarun.least": "3"}), "3"), (config_of({"numarun.least": 3}), None), (config_of(env=["NUMARUN_LEAST=1", "NUMARUN_LEAST=2"]), "2"),
+        (config_of({"numarun.least": "3"}, env=["NUMARUN_LEAST=2"]), "3"), (config_of(env="NUMARUN_LEAST=2"), None), (config_of(env=[5, None]), None),
+        (config_of(env=["XNUMARUN_LEAST=2", "NUMARUN_LEAST"]), None), (config_of(env=["NUMARUN_LEAST="]), ""), ({"annotations": []}, None),
+    )
+    for config, expected in table:
+        check(f"least of {config}", configs.wish_of(config, configs.LEAST), expected)
+    for text, least in (("2", 2), ("0", 1), ("x", 4), ("99999", 99999), ("100000", 4), ("", 4), ("\u0662", 4), ("-1", 4)):
+        check(f"least {text!r}", configs.least_of(Demand(config_of({"numarun.least": text}), 4)), least)
+    check("no wish", (configs.least_of(Demand({}, 4)), configs.least_of(Demand({}, None))), (4, 1))
+    check("stays", [configs.stays(config_of({"numarun.stay": text})) for text in ("true", "false", "yes")], [True, False, False])
+
+
+@case
+def other_sections() -> None:
+    """The configs that are told in place of one's own."""
+    own = {"a": 1, "linux": {"b": 2, "resources": {"c": 3, "cpu": {"cpus": "1-2", "quota": 5, "mems": "0", "shares": 9}}}}
+    section = {"quota": 2 * QUOTA, "period": QUOTA}
+
+    def with_cpu(cpu: Mapping[str, object]) -> Dict[str, object]:
+        return {"a": 1, "linux": {"b": 2, "resources": {"c": 3, "cpu": cpu}}}
+
+    check("shared", configs.shared(own), Demand(with_cpu({"mems": "0", "shares": 9}), None))
+    check("fewer", configs.fewer(Demand(own, 5), 2), Demand(with_cpu({"cpus": "1-2", "mems": "0", "shares": 9, **section}), 2))
+    check("staying", configs.staying(Demand(own, 2), cpus("4-5")), Demand(with_cpu({"cpus": "4-5", "quota": 5, "mems": "0", "shares": 9}), 2))
+    check("housed", configs.housed(own, cpus("1")), with_cpu({"cpus": "1-2", "quota": 5, "mems": "1", "shares": 9}))
+    odd_ones: Sequence[Config] = ({"linux": 5}, {"linux": {"resources": 5}}, {"linux": {"resources": {"cpu": 5}}}, {"linux": [1]})
+    for odd in odd_ones:
+        check(f"no section: {odd}", configs.shared(odd), Demand(odd, None))
+    check("none yet", configs.housed({"linux": None}, cpus("1")), {"linux": {"resources": {"cpu": {"mems": "1"}}}})
+    check("bare", [configs.bare(cpus(a), cpus(b)).count for a, b in (("1-2", ""), ("", "0"), ("", ""))], [2, None, None])
+    check("bare configs", [configs.bare(cpus(a), cpus(b)).config["linux"] for a, b in (("1-2", ""), ("", "0"))],
+          [{"resources": {"cpu": {"cpus": "1-2"}}}, {"resources": {"cpu": {"mems": "0"}}}])
+    check("bare ones are pinned by any rule", configs.asked(configs.bare(cpus("1-2"), cpus("")).config, Pin.ANNOTATED, machine_of(EIGHT)), 2)
+    check("limited", configs.limited(own, (2 * QUOTA, QUOTA), None), with_cpu({"cpus": "1-2", "mems": "0", "shares": 9, **section}))
+    check("limited in nodes", configs.limited(own, None, cpus("1")), with_cpu({"cpus": "1-2", "quota": 5, "mems": "1", "shares": 9}))
+    check("not limited", configs.limited(own, None, cpus("")) is own, True)
+
+
+@case
+def limits() -> None:
+    """Another limit of the group than the config's is followed, whatever the period; nodes and memory that are named."""
+    table: Sequence[Tuple[Config, Optional[Tuple[int, int]], object]] = (
+        (asks(2), (2 * QUOTA, QUOTA), None), (asks(2), (4 * QUOTA, 2 * QUOTA), None), (asks(2), (QUOTA, QUOTA), (QUOTA, QUOTA)), (asks(2), None, None),
+        ({}, (QUOTA, QUOTA), (QUOTA, QUOTA)), (config_of(quota=QUOTA), (QUOTA, QUOTA), None), (config_of(quota="x"), (QUOTA, QUOTA), (QUOTA, QUOTA)),
+        (config_of(quota=QUOTA, period="x"), (QUOTA, QUOTA), (QUOTA, QUOTA)),
+    )
+    for config, limit, expected in table:
+        check(f"the limit of {config} with {limit}", configs.other_limit(config, limit), expected)
+    check("nodes", [configs.nodes_named(config_of(mems=text)) for text in ("0-1", "x", 5, "")], [cpus("0-1"), cpus(""), cpus(""), cpus("")])
+    present = cpus("0-7")
+    check("CPUs", [configs.cpus_allowed(config_of(cpus=text), present) for text in ("1-2", " \n", 5)], [cpus("1-2"), present, present])
+    memory: Sequence[Config] = [*({"linux": {"resources": {"memory": {"limit": limit}}}} for limit in (5, 0, -1, True, "5")), {}]
+    check("memory", [configs.memory_asked(config) for config in memory], [5, 0, 0, 0, 0, 0])
+    for text in ("[]", "5", "{", "[" * 100000, '"x"', "\0"):
+        try:
+            configs.parse_text(text, "p")
+            check(f"no object: {text[:5]}", "taken", "refused")
+        except Refused as why:
+            check(f"named: {text[:5]}", str(why).startswith("p: "), True)
+
+
+# Homes.
+
+
+@case
+def near_nodes() -> None:
+    """The fewest nodes, the near ones of these, and those with the least to spare; memory counts where it is known of all."""
+    machine, gib = machine_of(FOUR), 1 << 30
+    free = machine.present - machine.reserved
+    nine = {node: 9 * gib for node in range(4)}
+
+    def home(count: int, taken: str = "", memory: Optional[Mapping[int, Optional[int]]] = None, limit: int = 0, **named: object) -> Optional[Cpus]:
+        config = {"linux": {"resources": {"memory": {"limit": limit * gib}, "cpu": named}}}
+        return homes.home_of(machine, config, count, free - cpus(taken), nine if memory is None else memory)
+
+    check("homes", [home(count) for count in (1, 2, 3, 4, 5, 6, 7, 8, 10, 14, 15)],
+          [cpus(text) for text in ("0", "0", "1", "1", "0-1", "0-1", "2-3", "2-3", "0-2", "0-3")] + [None])
+    check("named ones", (home(2, mems="0"), home(2, mems="x")), (None, None))
+    check("most memory of those that are alike", home(4, memory={0: gib, 1: gib, 2: 3 * gib, 3: 2 * gib}), cpus("2"))
+    check("enough memory", (home(2, limit=9), home(2, limit=10), home(2, limit=37)), (cpus("0"), cpus("0-1"), None))
+    check("not known of one", home(2, memory={0: None, 1: gib, 2: gib, 3: gib}, limit=5), cpus("0"))
+    check("no longer free", (home(4, "4-5"), home(4, "4-5,8-9,12-13"), home(2, "2-15")), (cpus("2"), cpus("0-1"), None))
+    far = machine_of({**FOUR, "distances": [[10 if a == b else 30 if {a, b} == {1, 2} else 20 for b in range(4)] for a in range(4)]})
+    check("the nearer one of two", homes.home_of(far, {}, 7, cpus("4-7,8-11,12-15"), nine), cpus("1,3"))
+    flat = machine_of({name: member for name, member in FOUR.items() if name != "distances"})
+    check("no distances", homes.home_of(flat, {}, 8, cpus("4-15"), nine), cpus("1-2"))
+    check("one node", homes.home_of(machine_of(EIGHT), {}, 2, cpus("1-7"), {}), None)
+    no_cpus = machine_of({"nodes": ["0-3", "", "4-7"], "reserved": "0"})
+    check("a node without CPUs", homes.home_of(no_cpus, {}, 5, cpus("1-7"), {}), cpus("0,2"))
+
+
+@case
+def free_bytes() -> None:
+    machine = machine_of({"nodes": ["0-3", "", "4-7"], "reserved": "0"})
+    for node, text in ((0, "Node 0 MemTotal: 9 kB\nNode 0 MemFree:  5 kB\n"), (1, "Node 1 MemFree: 7 kB\n")):
+        os.makedirs(scratch("nodes", f"node{node}"))
+        written(scratch("nodes", f"node{node}", "meminfo"), text)
+    check("free memory", homes.free_memory(scratch("nodes"), machine), {0: 5120, 2: None})
+
+
+@case
+def chosen_homes() -> None:
+    """A device's node, the nodes of the CPUs that one has already, or those where there is room that is promised to nobody."""
+    ledger = ledger_of(members=FOUR)
+    turn = Turn(ledger, Look(0.0, free_memory={node: 1 << 30 for node in range(4)}))
+
+    def home(config: Mapping[str, object], count: int = 2, near: Optional[int] = None, has: str = "") -> Optional[Cpus]:
+        turn.spare = None
+        seen = dataclasses.replace(sighting(config=config, cpus=cpus(has)), near=near)
+        return placing.choose_home(turn, seen, config, count)
+
+    check("a device", [home({}, near=node) for node in (3, 7)], [cpus("3"), cpus("0")])
+    check("one that names nodes", home(config_of(mems="2"), near=3), None)
+    check("its own CPUs", [home({}, has=text) for text in ("12-13", "12,8", "0,12", "12-14")], [cpus("3"), cpus("2-3"), cpus("0"), cpus("0")])
+    check("CPUs that it may have", home(config_of(cpus="12-15")), cpus("3"))
+    check("nowhere in particular", home({}, count=14), None)
+    ledger.put(container("p", State.PINNED, 2, cpus=cpus("2-3")))
+    check("one has them", home({}), cpus("1"))
+    ledger.put(dataclasses.replace(container("q", State.ASKING, 4, cpus=cpus("0-1")), given=Demand(asks(4, mems="1"), 4)))
+    check("and one is promised them", home({}), cpus("2"))
+    ledger.put(container("s", State.SHARED, cpus=cpus("8-11")))
+    check("who is on the pool keeps nobody off", home({}), cpus("2"))
+    turn.ledger = ledger_of(members=FOUR, homes=False)
+    check("--home none", home({}), None)
+
+
+@case
+def demands() -> None:
+    """What is told of a container: its home with it; of one that is stopped, or not pinned by the rule, no CPUs."""
+    turn = Turn(ledger_of(members=FOUR, pin=Pin.WHOLE), Look(0.0))
+    seen = sighting(config=asks(2))
+    check("with a home", placing.demand_of(turn, seen), Demand(asks(2, mems="0"), 2))
+    check("with its own", placing.demand_of(turn, seen, cpus("3")), Demand(asks(2, mems="3"), 2))
+    check("stopped", placing.demand_of(turn, dataclasses.replace(seen, stopped=True)), Demand(config_of(), None))
+    half = config_of(quota=50000, period=QUOTA)
+    check("not by the rule", placing.demand_of(turn, sighting(config=half)), Demand(config_of(), None))
+    check("asks for none", placing.demand_of(turn, sighting(config=config_of(mems="1"))), Demand(config_of(mems="1"), None))
+    check("refused by numarun", placing.demand_of(turn, sighting(config=config_of(cpus="x"))), Demand(config_of(cpus="x"), None))
+    check("by its group", placing.demand_of(turn, dataclasses.replace(seen, limit=(4 * QUOTA, QUOTA), nodes=cpus("2"))), Demand(asks(4, mems="2"), 4))
+    ledger = ledger_of(container("p", State.PINNED, 2, cpus=cpus("2-3")), container("w", State.WAITING, None, cpus=cpus("0")))
+    check("free CPUs", placing.free_cpus(ledger), cpus("0-1,4-7"))
+    ledger.running = cpus("1-5")
+    check("of those that run, and the reserved ones", placing.free_cpus(ledger), cpus("0-1,4-5"))
+
+
+@case
+def homes_said() -> None:
+    """A home is said once, and that of a device with its name; a list of nodes that one has itself is no home."""
+    near = config_of({"numarun.near": "eth0"}, quota=QUOTA)
+    table: Sequence[Tuple[Config, Config, Optional[Cpus], Optional[int], object]] = (
+        ({}, asks(1, mems="1"), None, None, (["home a 1"], cpus("1"))), ({}, asks(1, mems="1"), cpus("1"), None, ([], cpus("1"))),
+        ({}, asks(1, mems="1"), cpus("2"), None, (["home a 1"], cpus("1"))), ({}, asks(1), cpus("1"), None, ([], None)),
+        (config_of(mems="1"), asks(1, mems="1"), None, None, ([], None)), (near, asks(1, mems="2"), None, 2, (["home a 2: eth0 is there"], cpus("2"))),
+        (near, asks(1, mems="2"), None, 3, (["home a 2"], cpus("2"))),
+    )
+    for config, demand, had, near_node, expected in table:
+        one = container("a", State.PINNED, 1, home=had, demand=Demand(demand, 1), seen=dataclasses.replace(sighting(config=config), near=near_node))
+        ledger = ledger_of(one)
+        commands, _ = done(placing.say_home(ledger, "a"))
+        check(f"the home of {config} {demand} {had}", (said(commands), ledger.containers["a"].home), expected)
+
+
+# The system's own groups.
+
+
+@case
+def ids_of_groups() -> None:
+    for group, expected in (("system.slice", "system.slice"), ("a/b", "a+b"), ("a" * 64, "a" * 64), (".", ".-"), ("..", "..-")):
+        check(f"an id of {group[:9]}", slices.id_of(group)[:len(expected)], expected)
+    for group in ("a b", "a" * 65, "system.slice/a@b", "ä"):
+        check(f"a digest for {group[:9]}", (slices.id_of(group)[-9], len(slices.id_of(group)) <= 64), ("-", True))
+    check("below", [slices.is_below(path, above) for path, above in (("/t/a", "/t"), ("/t", "/t"), ("/ta", "/t"), ("/t/a", "/t/a/b"))], [True, False, False, False])
+
+
+def tree(**groups: str) -> Dict[str, Group]:
+    """Groups below /t, with + between names, each with what it requests."""
+    return {f"/t/{name.replace('__', '/').replace('_', '.')}": Group(f"/t/{name.replace('__', '/').replace('_', '.')}", 1, cpus(text)) for name, text in groups.items()}
+
+
+@case
+def held_groups() -> None:
+    """A group above a pinned container is let go, those beside the way are held, and what is below a container is its own."""
+    groups = tree(s_slice="", s_slice__a="", s_slice__b="", u_slice="")
+    below = {"/t/s.slice": ("a", "b"), "/t/s.slice/b": ()}
+    ledger = ledger_of(slices=("s.slice", "u.slice", "gone.slice"))
+    turn = Turn(ledger, Look(0.0, groups=groups, below=below))
+    check("nobody is below", sorted(slices.rest_of(turn)[0]), ["s.slice", "u.slice"])
+    turn.there["c"] = sighting("/t/s.slice/b/c", asks(1))
+    rest, on_the_way = slices.rest_of(turn)
+    check("one is below", (sorted(rest), on_the_way), (["s.slice+a", "u.slice"], {"/t/s.slice": "c", "/t/s.slice/b": "c"}))
+    turn.there["c"] = sighting("/t/s.slice/b/c")
+    check("one that asks for none", sorted(slices.rest_of(turn)[0]), ["s.slice", "u.slice"])
+    turn.there["c"] = sighting("/t/s.slice/b/c", config_of(cpus="x"))
+    check("one that is refused", sorted(slices.rest_of(turn)[0]), ["s.slice", "u.slice"])
+    ledger.put(container("c", State.PINNED, 1))
+    check("one that is told", sorted(slices.rest_of(turn)[0]), ["s.slice+a", "u.slice"])
+    turn.there["d"] = sighting("/t/u.slice")
+    check("a container is none of them", sorted(slices.rest_of(turn)[0]), ["s.slice+a"])
+    turn.look = Look(0.0, groups={**groups, "/t/u.slice": NoGroup("no cpuset.cpus in it", folder=True), "/t/gone.slice": NoGroup("gone")}, below=below)
+    del turn.there["d"]
+    found = slices.rest_of(turn)[0]
+    check("without a file", (isinstance(found["u.slice"], Missing), "gone.slice" in found), (True, False))
+    check("told as shared", [isinstance(one, Found) and one.config == configs.REST and one.told.is_system for name, one in found.items() if name != "u.slice"], [True])
+    check("no groups are named", slices.rest_of(Turn(ledger_of(), Look(0.0))), ({}, {}))
+
+
+@case
+def groups_let_go() -> None:
+    """A group that is held no more has all CPUs; where that fails the reason is said once."""
+    groups = tree(s_slice="0,3", u_slice="0-7", w_slice="", v="0,3")
+    ledger = ledger_of(slices=("s.slice", "u.slice", "w.slice"))
+    ledger.taken = {path: Taken(1, "", "", path != "/t/v") for path in groups}
+    turn = Turn(ledger, Look(0.0, groups=groups))
+    commands, _ = done(slices.let_go(turn))
+    writes = [(command.path, command.file, command.text) for command in commands if isinstance(command, Write)]
+    check("writes", writes, [("/t/s.slice", "cpuset.cpus", ""), ("/t/s.slice", "cpuset.mems", "")])
+    check("is said", said(commands), ["all CPUs for /t/s.slice"])
+    turn.on_the_way = {"/t/s.slice": "c"}
+    check("for whom", said(done(slices.let_go(turn))[0]), ["all CPUs for /t/s.slice: c is below it"])
+    turn.there["x"] = sighting("/t/s.slice")
+    check("one that is held", said(done(slices.let_go(turn))[0]), [])
+    del turn.there["x"]
+    steps = slices.let_go(turn)
+    tried, command = [], next(steps)
+    try:
+        while True:
+            tried.append(command)
+            command = steps.send(Answer(why="busy" if isinstance(command, Write) else None))
+    except StopIteration:
+        pass
+    check("one that can't be written", (said(tried), [one.text for one in tried if isinstance(one, Write)]),
+          (["refused /t/s.slice: c is below it, and gets no CPUs: busy"], ["", "0-7"]))
+    check("said once", said(tried_again(slices.let_go(turn))), [])
+    turn.on_the_way = {}
+    check("nobody is below: it is silent", said(tried_again(slices.let_go(turn))), [])
+
+
+def tried_again(steps: Steps[T]) -> List[Command]:
+    """The same where no write is taken."""
+    tried, command = [], next(steps, None)
+    try:
+        while command is not None:
+            tried.append(command)
+            command = steps.send(Answer(why="busy" if isinstance(command, Write) else None))
+    except StopIteration:
+        pass
+    return tried
+
+
+@case
+def given_back() -> None:
+    """What a group requested before is written again, of what could be read; an empty list that is not taken is all of the machine."""
+    ledger = ledger_of(members=FOUR)
+    turn = Turn(ledger, Look(0.0))
+    for taken, whole, expected in (
+        (Taken(1, "1-2", "0", True), False, [("cpuset.cpus", "1-2"), ("cpuset.mems", "0")]), (Taken(1, "1-2", None, True), False, [("cpuset.cpus", "1-2")]),
+        (Taken(1, "1-2", "0", True), True, [("cpuset.cpus", ""), ("cpuset.mems", "")]), (None, False, [("cpuset.cpus", ""), ("cpuset.mems", "")]),
+    ):
+        ledger.taken = {"/t/a": taken} if taken else {}
+        commands, why = done(slices.give_back(turn, "/t/a", whole))
+        check(f"given back {taken}", ([(one.file, one.text) for one in commands if isinstance(one, Write)], why), (expected, None))
+    ledger.taken = {}
+    commands = tried_again(slices.give_back(turn, "/t/a"))
+    check("an empty list is not taken", [(one.file, one.text) for one in commands if isinstance(one, Write)], [("cpuset.cpus", ""), ("cpuset.cpus", "0-15")])
+
+
+@case
+def processes_on_the_way() -> None:
+    ledger = ledger_of()
+    turn = Turn(ledger, Look(0.0, busy=frozenset({"/t/s", "/t/other"})))
+    turn.on_the_way = {"/t/s": "c", "/t/u": "c"}
+    line = "refused /t/s: it can't be on the pool, since c is below it; its own processes run on all CPUs"
+    check("said", said(done(slices.say_processes(turn))[0]), [line])
+    check("once", said(done(slices.say_processes(turn))[0]), [])
+    turn.on_the_way = {}
+    done(slices.say_processes(turn))
+    check("and no more", ledger.problems, {})
+
+
+# What is known.
+
+
+@case
+def pauses() -> None:
+    """They double up to 64 times the first one."""
+    ledger, lengths = ledger_of(pause=0.1), []
+    for _ in range(9):
+        ledger.begin_pause("plan", "", 100.0)
+        lengths.append(ledger.pauses["plan", ""].length)
+    check("lengths", [round(length, 2) for length in lengths], [0.1, 0.2, 0.4, 0.8, 1.6, 3.2, 6.4, 6.4, 6.4])
+    check("over", [ledger.is_over("plan", "", now) for now in (100.0, 106.3, 106.4)] + [ledger.is_over("plan", "x", 0.0)], [False, False, True, True])
+    ledger.end_pause("plan")
+    ledger.begin_pause("plan", "", 100.0)
+    check("anew", ledger.pauses["plan", ""], Pause(100.1, 0.1))
+    short = ledger_of(pause=0.01)
+    short.begin_pause("plan", "", 0.0)
+    check("at least", short.pauses["plan", ""].length, 0.05)
+
+
+@case
+def problems() -> None:
+    """What is left undone is said once as long as it is the same, and counts until it is done."""
+    ledger = ledger_of()
+
+    def tell(kind: Kind, text: str) -> List[str]:
+        return said(done(report(ledger, Topic.CONTAINER, "a", kind, text))[0])
+
+    check("said", [tell(Kind.WAITS, "x"), tell(Kind.WAITS, "x"), tell(Kind.WAITS, "y"), tell(Kind.FAILED, ": y")], [["waits x"], [], ["waits y"], ["failed: y"]])
+    ledger.unsaid.add((Topic.CONTAINER, "a"))
+    check("what was not said yet", [tell(Kind.FAILED, ": y"), tell(Kind.FAILED, ": y")], [["failed: y"], []])
+    check("status", [is_undone(ledger, told) for told in (True, False)], [True, True])
+    for kind, expected in ((Kind.WAITS, False), (Kind.KEEPS, False), (Kind.FEWER, False), (Kind.SHORT, True), (Kind.STAYS, True)):
+        ledger.problems = {(Topic.CONTAINER, "a"): Problem(kind, "a", "")}
+        check(f"told to end with {kind}", (is_undone(ledger, True), is_undone(ledger, False)), (expected, True))
+    ledger.problems = {}
+    check("none", is_undone(ledger, False), False)
+    for part in ("due", "wrong"):
+        setattr(ledger, part, True)
+        check(part, is_undone(ledger, True), True)
+        setattr(ledger, part, False)
+    ledger.problems = {(Topic.STAYS, name): Problem(Kind.STAYS, name, name) for name in ("b", "a")}
+    ledger.unsaid = set(ledger.problems)
+    check("at the end", said(say_unsaid(ledger)), ["stays a", "stays b"])
+    ledger.settle(Topic.STAYS, "a", Kind.WAITS)
+    check("another kind is left", (Topic.STAYS, "a") in ledger.problems, True)
+    ledger.settle(Topic.STAYS, "a", Kind.STAYS)
+    check("done", (list(ledger.problems), ledger.unsaid), ([(Topic.STAYS, "b")], {(Topic.STAYS, "b")}))
+    ledger.refused["b"] = ledger.blocking["b"] = sighting()
+    ledger.pauses["container", "b"] = Pause(1, 1)
+    ledger.forget("b", Topic.DRIFT)
+    check("of one topic", (list(ledger.problems), ledger.refused, ledger.blocking, ledger.pauses), ([(Topic.STAYS, "b")], {}, {}, {}))
+    ledger.forget("b")
+    check("forgotten", (ledger.problems, ledger.unsaid), ({}, set()))
+
+
+@case
+def copies() -> None:
+    """What is decided at a look leaves what was known before as it was."""
+    before = ledger_of(container("a", State.SHARED))
+    copy = before.copy()
+    copy.containers.clear()
+    copy.problems[Topic.LOOK, ""] = Problem(Kind.FAILED, "", "")
+    copy.unsaid.add((Topic.LOOK, ""))
+    copy.taken["/t"] = copy.renewed["/t"] = Taken(1, "", "", False)
+    check("as it was", (list(before.containers), before.problems, before.unsaid, before.taken), (["a"], {}, set(), {}))
+    check("titles", (copy.title("x"), dataclasses.replace(copy, titles={"x": "y"}).title("x")), ("x", "y"))
+    before.renewed = {"/t/a": Taken(1, "1", "", False), "/t/b": Taken(2, "2", "", False)}
+    before.taken = {"/t/a": Taken(3, "3", "", False)}
+    check("what is kept", [taken.inode for taken in before.all_taken.values()], [3, 2])
+
+
+# A look.
+
+
+@case
+def reserved_cores() -> None:
+    """The machine file's, while one of them runs; else those of the lowest whole core, and these as long as one of them runs."""
+    machine = machine_of(FOUR)
+    for running, before, expected in (("0-15", "", "0-1"), ("1-15", "", "0-1"), ("2-15", "", "2-3"), ("3-15", "", "4-5"), ("2-15", "4-5", "4-5"),
+                                      ("2-3,6-15", "4-5", "2-3"), ("3,5,7", "", "2-3"), ("", "", "0-1")):
+        check(f"reserved of {running}, {before}", reserved_of(machine, cpus(running), cpus(before)), cpus(expected))
+
+
+def looked(ledger: Ledger, answers: Mapping[str, Sequence[str]] = {}, **look: object) -> Tuple[List[Command], Ledger]:
+    parts = {"now": 10.0, "online": Online(ledger.running), **look}
+    return done(decide(ledger, Look(**parts)), answers)  # type: ignore[arg-type]
+
+
+@case
+def silent_folders() -> None:
+    """A folder that is not there is named at once, and one without containers at the second look; each once."""
+    ledger, lines = ledger_of(), []
+    ledger.due = False
+    looks = [Folder("/f", False), Folder("/f", False), Folder("/f", True, 2, 0, "x"), Folder("/f", True, 2, 0, "x"), Folder("/f", True, 2, 0, "x"),
+             Folder("/f", True, 2, 1), Folder("/f", True), Folder("/f", False)]
+    for folder in looks:
+        commands, ledger = looked(ledger, folders=(folder,))
+        lines.append(said(commands))
+    check("what is said", lines, [["note /f: no such folder yet"], [], [], ["note /f: none of its 2 entries is a container, as x"], [], [], [],
+                                  ["note /f: no such folder yet"]])
+
+
+@case
+def notes() -> None:
+    """What is not as in the machine file is said once, until it is another thing; of reserved ones that are off too."""
+    ledger = ledger_of(members={"nodes": ["0-7"], "distances": [[10]], "reserved": "0-1"})
+    ledger.started = False
+    commands, ledger = looked(ledger, online=Online(cpus("0,2-7"), cpus("8-9"), cpus("7")))
+    check("at the start", [line for line in said(commands) if line.startswith("note")], [
+        "note CPUs 8-9 are left alone: the machine file has none of them", "note CPUs 7 are left alone: they are online, and not in effect in /t",
+        "note of the reserved CPUs 1 are not there"])
+    check("what it starts with", [(one.reserved, one.offline) for one in commands if isinstance(one, Start)], [(cpus("0-1"), cpus(""))])
+    commands, ledger = looked(ledger, online=Online(cpus("0,2-5"), cpus("8-9")))
+    check("and then", [line for line in said(commands) if line.startswith(("note", "offline"))], ["offline 6", "offline 7"])
+    check("what is told", (ledger.running, ledger.switched), (cpus("0,2-5"), {6: "offline", 7: "offline"}))
+    commands, ledger = looked(ledger, online=Online(cpus("0,2-6"), cpus("9")))
+    check("another thing", [line for line in said(commands) if line.startswith(("note", "online"))], [
+        "online 6", "note CPUs 9 are left alone: the machine file has none of them"])
+    commands, ledger = looked(ledger, {"offline 5": ["refused E52 NoSuchCpu 5"]}, online=Online(cpus("0,2-4,6"), cpus("9")))
+    check("refused", ([line for line in said(commands) if "5" in line], ledger.wrong, 5 in ledger.running), (["refused E52 NoSuchCpu 5: offline 5"], True, True))
+
+
+@case
+def no_reserved_left() -> None:
+    """Where all reserved CPUs are off a run with others begins, and takes up who is there; where no CPU is left it ends."""
+    ledger = ledger_of(container("a", State.PINNED, 1), container("s", State.SHARED))
+    commands, ledger = looked(ledger, online=Online(cpus("2-7")))
+    starts = [one for one in commands if isinstance(one, Start)]
+    check("another run", [(one.reserved, one.offline, one.shown) for one in starts], [(cpus("2"), cpus("0-1"), cpus("2-7"))])
+    check("what is known then", (ledger.before, ledger.reserved, ledger.containers), ({}, cpus("2"), {}))
+    check("the note", [line for line in said(commands) if "place" in line], ["note of the reserved CPUs 0 are not there, and 2 are reserved in place of them"])
+    try:
+        looked(ledger, online=Online(cpus("")))
+        check("no CPU", "goes on", "refused")
+    except Refused as why:
+        check("no CPU", str(why), "m: none of its CPUs is there, or in effect in /t")
+
+
+@case
+def told_wrong() -> None:
+    """What is no event, a folder that can't be looked at, an id that is told twice, and how the command of --pool ended."""
+    ledger = ledger_of()
+    commands, ledger = looked(ledger, wrong=("line 1: x",), fault="/f: no", doubles=(Double("a", "/f/a", "/g/a"),), pool_command="sh 1", pool_fault="status 1")
+    check("said", said(commands), ["refused: line 1: x", "failed /f: no; looks again", "refused: its id is told by /g/a too: a /f/a", "failed sh 1: status 1"])
+    check("left undone", (ledger.wrong, len(ledger.problems)), (True, 3))
+    commands, ledger = looked(ledger, pool_command="sh 1")
+    check("all done", (said(commands), ledger.problems), ([], {}))
+    commands, _ = looked(ledger, fault="/f: no")
+    check("and again", said(commands), ["failed /f: no; looks again"])
+
+
+@case
+def figures() -> None:
+    ledger = ledger_of(container("p", State.PINNED, 1), container("q", State.ASKING, 1), container("w", State.WAITING), container("s", State.SHARED),
+                       container("o", State.POOLED), figures="/figures")
+    ledger.problems = {(Topic.DRIFT, "p"): Problem(Kind.DRIFT, "p", ""), (Topic.SQUEEZED, "q"): Problem(Kind.SQUEEZED, "q", ""),
+                       (Topic.SQUEEZED, "s"): Problem(Kind.SQUEEZED, "s", ""), (Topic.DRIFT, "gone"): Problem(Kind.DRIFT, "gone", ""),
+                       (Topic.STAYS, "p"): Problem(Kind.STAYS, "p", "")}
+    check("squeezed", squeezed_of(ledger), {"p", "q"})
+    found = figures_of(ledger)
+    check("figures", [found[f"containers_{name}"] for name in ("pinned", "waiting", "shared", "squeezed")] + [found["undone"]], [2, 1, 2, 2, 5])
+    ledger.looked = 7.5
+    held = {one.name: Missing(Told("/b", "/f"), "no config") for one in ledger.containers.values()}
+    groups = {f"/t/{name}": Group(f"/t/{name}", 1, populated=True) for name in held}
+    commands, ledger = looked(ledger, told=held, groups=groups)
+    check("seconds", (ledger.times["waited_seconds_total"], ledger.times["squeezed_seconds_total"], ledger.looked), (2.5, 5.0, 10.0))
+    check("left", [one.figures["containers_waiting"] for one in commands if isinstance(one, LeaveFigures)], [1])
+
+
+@case
+def hooks() -> None:
+    """A hook is answered once it is decided: pinned, shared, no place, refused."""
+    waits = Problem(Kind.WAITS, "w", "w: no place")
+    ledger = ledger_of(container("p", State.PINNED, 1, cpus=cpus("1")), container("s", State.SHARED, cpus=cpus("0,2-7")), container("w", State.WAITING, cpus=cpus("0")),
+                       container("q", State.ASKING, 1, cpus=cpus("0")), container("k", State.KEPT, 1, cpus=cpus("2")), container("n", State.PINNED, 1))
+    ledger.problems = {(Topic.CONTAINER, "w"): waits, (Topic.CONTAINER, "r"): Problem(Kind.REFUSED, "r", ": r"), (Topic.CONTAINER, "f"): Problem(Kind.FAILED, "f", "f"),
+                       (Topic.CONTAINER, "a"): Problem(Kind.ABSENT, "a", "a"), (Topic.CONTAINER, "k"): Problem(Kind.REFUSED, "k", "k")}
+    expected = {"p": ("pinned", "pinned p 1"), "s": ("shared", "shared s 0,2-7"), "w": ("no place", "no place waits w: no place"), "q": None, "r": ("refused", "refused: r"),
+                "f": ("failed", "failed f"), "a": None, "k": ("refused", "refused k"), "n": None, "nobody": None}
+    for name, answer in expected.items():
+        check(f"of {name}", answer_to_hook(ledger, name), answer and {"answer": answer[0], "text": answer[1]})
+    ledger.unsaid.add((Topic.CONTAINER, "w"))
+    ledger.due = True
+    check("a plan is due", [answer_to_hook(ledger, name) for name in "pw"], [None, None])
+
+
+@case
+def seen_sets() -> None:
+    """Which limit and which nodes of a group are followed, and who is the same container as before."""
+    ledger = ledger_of(container("a", State.PINNED, 1, nodes=cpus("0"), cpus=cpus("2-3")), members=FOUR)
+
+    def found(limit: Optional[Tuple[int, int]] = None, nodes: Optional[str] = None, folder: Optional[str] = "/f") -> Found:
+        return Found(Told("/b", folder), ("s",), asks(1), Group("/t/a", 1, nodes=None if nodes is None else cpus(nodes), limit=limit))
+
+    for name, one, expected in (
+        ("a", found(), (None, None)), ("a", found((2 * QUOTA, QUOTA)), ((2 * QUOTA, QUOTA), None)), ("a", found(nodes="0"), (None, None)),
+        ("a", found(nodes="1"), (None, cpus("1"))), ("a", found(nodes="9"), (None, None)), ("a", found(nodes=""), (None, None)),
+        ("a", found((2 * QUOTA, QUOTA), "1", None), (None, None)), ("new", found(nodes="0-3"), (None, None)), ("new", found(nodes="2"), (None, cpus("2"))),
+    ):
+        check(f"what {name} is seen with", sightings.limits(ledger, name, one), expected)
+    ledger.change("a", followed=cpus("3"))
+    check("what it followed before", sightings.limits(ledger, "a", found(nodes="0")), (None, cpus("3")))
+    check("written", [sightings.written(ledger, nodes) for nodes in (cpus("1"), cpus("9"), None, cpus(""))], [cpus("1"), cpus("0-3"), cpus("0-3"), cpus("0-3")])
+    before = ledger.containers["a"]
+    seen = dataclasses.replace(before.seen, group=dataclasses.replace(before.seen.group, cpus=cpus("2-3")))
+
+    def same(**parts: object) -> bool:
+        return sightings.is_same(ledger, before, dataclasses.replace(seen, **parts))
+
+    other, no_cpus = dataclasses.replace(seen.group, inode=2), dataclasses.replace(seen.group, cpus=cpus(""))
+    check("the same", [same(), same(stamp=("t",)), same(group=other), same(stamp=("t",), group=no_cpus), same(group=no_cpus),
+                       same(stamp=("t",), told=dataclasses.replace(seen.told, turn=1)), same(stamp=("t",), group=dataclasses.replace(seen.group, path="/t/b"))],
+          [True, True, False, False, True, False, False])
+
+
+@case
+def as_before() -> None:
+    """One of which no config can be read, and which the agent before held, while it has a process: pinned as it was known to be, or by what it requests."""
+    for pinned, has, kept, populated, system, expected in (
+        (None, "2-3", 1, True, False, (2, "2-3")), (None, "0,2", 1, True, False, (None, "-")), (None, "", 1, True, False, (None, "-")), (True, "0,2", 1, True, False, (1, "2")),
+        (False, "2-3", 1, True, False, (None, "-")), (True, "2-3", 9, True, False, None), (True, "2-3", 1, False, False, None), (True, "2-3", 1, True, True, None),
+    ):
+        ledger = ledger_of()
+        ledger.before, ledger.taken = {"a": ("/t/a", pinned)}, {"/t/a": Taken(kept, "", "", system)}
+        turn = Turn(ledger, Look(0.0, groups={"/t/a": Group("/t/a", 1, cpus(has), populated=populated)}))
+        found = sightings.as_before(turn, "a", Told("/b", "/f"))
+        known = configs.at(found.config, "linux", "resources", "cpu", "cpus") if found else None
+        what = (configs.asked(found.config, Pin.ANNOTATED, ledger.settings.machine), known or "-") if found else None
+        check(f"{pinned} on {has!r}, {kept}, {populated}, {system}", what, expected)
+    turn = Turn(ledger_of(), Look(0.0))
+    check("nobody held it", sightings.as_before(turn, "a", Told("/b", "/f")), None)
+
+
+@case
+def replies() -> None:
+    for text, fault, momentary in (("refused E50 KernelFault", 50, True), ("refused E45 NoPids", 45, True), ("refused E111 NoBundle", 111, True),
+                                   ("refused E104 NotFree 3", 104, False), ("ok", None, False), ("refused E5 X", None, False)):
+        reply = Reply((text,))
+        check(text, (reply.fault, reply.is_momentary), (fault, momentary))
+    check("its refusal", Reply(("refused E104 NotFree 3",)).refusal, "E104 NotFree 3")
+
+
+@case
+def pool_told() -> None:
+    """The command of --pool is run with the pool's list when that is another one, and a small pool is noted."""
+    ledger = ledger_of(pool=True, pool_least=3)
+    ledger.due = True
+    answers = {"begin": ["plan total 0", "pool 0-1", "end"]}
+    commands, ledger = looked(ledger, answers)
+    check("run", ([print_list(one.cpus) for one in commands if isinstance(one, RunPool)], said(commands)),
+          (["0-1"], ["plan total 0", "pool 0-1", "done", "note the pool has 2 CPUs, and keeps 3: nobody else gets CPUs of its own"]))
+    ledger.due = True
+    commands, ledger = looked(ledger, answers)
+    check("the same one", ([one for one in commands if isinstance(one, RunPool)], said(commands), ledger.due), ([], ["plan total 0", "done"], False))
+
+
+@case
+def taken_kept() -> None:
+    """Of a group that is gone, or another one by now, nothing is kept; of one that is held, or can't be seen, it is."""
+    ledger = ledger_of(container("a", State.SHARED, cpus=cpus("")))
+    ledger.taken = {f"/t/{name}": Taken(1, "", "", False) for name in ("a", "gone", "other", "there", "unseen")}
+    groups = {"/t/a": Group("/t/a", 2), "/t/gone": NoGroup("gone"), "/t/other": Group("/t/other", 2), "/t/there": Group("/t/there", 1)}
+    told = {"a": Found(Told("/b", "/f"), ("s",), {}, Group("/t/a", 1))}
+    commands, ledger = looked(ledger, told=told, groups=groups)
+    check("kept", (sorted(ledger.taken), [sorted(one.groups) for one in commands if isinstance(one, SaveTaken)]),
+          (["/t/a", "/t/there", "/t/unseen"], [["/t/a", "/t/there", "/t/unseen"]]))
+    commands, _ = looked(ledger, told=told, groups=groups)
+    check("saved once", [one for one in commands if isinstance(one, SaveTaken)], [])

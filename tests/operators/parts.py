@@ -1,0 +1,493 @@
+"""Tries by hand, without a process, how the agent tells of who comes, follows what changes, and gives out CPUs that are few. Expected values are worked
+out by hand from the pages of operators/."""
+
+from __future__ import annotations
+
+import dataclasses
+from typing import Any, Dict, List, Mapping, Optional, Sequence, Tuple
+
+from decided import EIGHT, FOUR, asks, config_of, container, cpus, done, ledger_of, looked, said, sighting
+from trial import case, check
+from numarun_host import changes, configs, newcomers, plans, room
+from numarun_host.commands import Answer, Ask, Command, Drop, Link, SaveTaken, Taken, Tell, Unlink, Verb, Write
+from numarun_host.configs import Demand
+from numarun_host.cpus import print_list
+from numarun_host.ledger import Kind, Ledger, Pause, Problem, State, Topic
+from numarun_host.room import Outcome, Shortage
+from numarun_host.seen import Found, Group, Look, Missing, Told
+from numarun_host.telling import Reply, Turn
+
+
+def asking(count: int, given: Optional[int] = None, wanted: Optional[int] = None, annotations: Optional[Mapping[str, str]] = None) -> Mapping[str, Any]:
+    """A demand of one's own, and what one is given of it; and what it wants by now."""
+    config: Mapping[str, object] = {**asks(count), **({"annotations": annotations} if annotations else {})}
+    demand = Demand(config, count)
+    less = demand if given is None else configs.fewer(demand, given) if given else configs.shared(config)
+    return {"demand": demand, "given": less, "wanted": configs.fewer(demand, wanted) if wanted else None}
+
+
+def least(count: int, number: int, given: Optional[int] = None) -> Mapping[str, Any]:
+    return asking(count, given, annotations={"numarun.least": str(number)})
+
+
+def one(name: str, state: State, **more: Any) -> Any:
+    return dataclasses.replace(container(name, state), **more)
+
+
+def found(name: str, config: Mapping[str, object], has: str = "", path: str = "", **more: Any) -> Found:
+    group = Group(path or f"/t/{name}", 7, cpus(has), populated=True, texts=(has, ""))
+    return Found(Told(f"/g/{name}", f"/g/{name}"), (name,), config, group, **more)
+
+
+def as_given(told: Mapping[str, Found], ledger: Ledger) -> Dict[str, Found]:
+    """The same once each group has what its container was given."""
+    cpus_of = {held.seen.group.path: held.cpus or frozenset() for held in ledger.containers.values()}
+    return {name: dataclasses.replace(each, group=dataclasses.replace(each.group, cpus=cpus_of.get(each.group.path, each.group.cpus))) for name, each in told.items()}
+
+
+def told_of(commands: Sequence[Command]) -> List[str]:
+    return [f"{command.verb.value} {command.name} {print_list(command.cpus)}" for command in commands if isinstance(command, Tell)]
+
+
+def groups_of(*several: Found) -> Mapping[str, Group]:
+    return {each.group.path: each.group for each in several}
+
+
+# Who comes.
+
+
+@case
+def ways() -> None:
+    """How one is told first, and what is tried behind that, by the CPUs that its group requests."""
+    two = asks(2)
+    stay: Mapping[str, object] = {**two, "annotations": {"numarun.stay": "true"}}
+    rows: Sequence[Tuple[str, Mapping[str, object], str, str, Sequence[Tuple[Optional[int], bool, str]]]] = (
+        ("shared", config_of(), "0,3", "", [(None, False, "0,3"), (None, False, "-")]), ("shared, new", config_of(), "", "", [(None, False, "-"), (None, False, "-")]),
+        ("new", two, "", "", [(2, False, "-"), (2, False, "-")]), ("has its own", two, "1-2", "", [(2, False, "1-2"), (2, False, "-")]),
+        ("has fewer", two, "1", "", [(1, False, "1"), (2, False, "1"), (2, False, "-")]), ("has more", two, "1-3", "", [(2, False, "1-3"), (2, False, "-")]),
+        ("stays", stay, "1-2", "", [(2, False, "1-2"), (2, False, "1-2"), (2, False, "-")]), ("stays on more", stay, "1-3", "", [(2, False, "1-3"), (2, False, "-")]),
+        ("stays on fewer", stay, "1", "", [(1, False, "1"), (2, False, "1"), (2, False, "-")]), ("on the pool with others", two, "0-3", "0-3", [(None, True, "0-3"), (2, False, "-")]),
+        ("on as many with others", two, "1-2", "1-2", [(2, False, "1-2"), (2, False, "-")]), ("on the reserved one alone", two, "0", "0", [(2, False, "0"), (2, False, "-")]),
+    )
+    for name, config, has, other, expected in rows:
+        turn = Turn(ledger_of(), Look(0.0))
+        seen = sighting("/t/a", config, cpus=cpus(has))
+        turn.there = {"a": seen, "b": sighting("/t/b", cpus=cpus(other))}
+        demand = Demand(config, configs.asked(config, configs.Pin.ALL, turn.ledger.settings.machine))
+        several = newcomers.ways_of(turn, seen, demand, seen.group.cpus)
+        check(name, [(way.given.count, way.waits, print_list(way.cpus)) for way in several][:len(expected)], expected)
+        check(f"{name}: where the config can't be had", [way.given.count for way in several[-4:]], [None] * 4)
+        check(f"{name}: and where", [print_list(way.cpus) for way in several[-4:]], [print_list(cpus(has)), "-"] * 2)
+        check(f"{name}: as it is, where it was given these", len(several[len(expected):]), 4)
+    turn = Turn(ledger_of(), Look(0.0))
+    turn.ledger.known = frozenset({"/t/a"})
+    seen = sighting("/t/a", two, cpus=cpus("1-2"))
+    turn.there = {"a": seen}
+    several = newcomers.ways_of(turn, seen, Demand(two, 2), seen.group.cpus)
+    check("an agent gave it these", [(way.given.count, print_list(way.cpus)) for way in several[2:3]], [(2, "1-2")])
+    turn.ledger.put(container("p", State.PINNED, 2, cpus=cpus("1-2")))
+    system = dataclasses.replace(sighting("/t/s.slice"), told=Told("", None, "s.slice"))
+    check("one of the system begins on what is free", print_list(newcomers.ways_of(turn, system, Demand({}, None), cpus(""))[0].cpus), "0,3-7")
+
+
+@case
+def states_at_first() -> None:
+    for given, waits, bare, own, expected in ((2, True, False, 2, State.WAITING), (None, False, True, 0, State.POOLED), (None, False, False, 0, State.SHARED), (2, False, True, 2, State.KEPT),
+                                              (2, False, False, 2, State.PINNED), (2, False, False, 3, State.PINNED), (2, False, False, 1, State.ASKING)):
+        check(f"{given} {waits} {bare} {own}", newcomers.state_of(Demand({}, given), waits, bare, own), expected)
+
+
+@case
+def told_in_order() -> None:
+    """Those of whom something was kept come first, in that order, then the older ones; the system's own last. What they had is kept before any write."""
+    ledger = ledger_of(slices=("s.slice",))
+    ledger.taken = {"/t/d": Taken(7, "", "", False), "/t/c": Taken(7, "", "", False)}
+    told = {name: found(name, config_of(), age=age) for name, age in (("a", 9), ("b", 5), ("c", 9), ("d", 9))}
+    groups = {**groups_of(*told.values()), "/t/s.slice": Group("/t/s.slice", 7, texts=("", "0"))}
+    commands, after = looked(ledger, told=told, groups=groups)
+    check("the order", [line.split(" ")[1] for line in told_of(commands)], ["d", "c", "b", "a", "s.slice"])
+    kinds = [type(command) for command in commands if isinstance(command, (SaveTaken, Link))]
+    check("kept first", kinds[:2], [SaveTaken, Link])
+    check("what is kept", {path: (taken.cpus, taken.nodes, taken.system) for path, taken in after.taken.items() if path in ("/t/a", "/t/s.slice")},
+          {"/t/a": ("", "", False), "/t/s.slice": ("", "0", True)})
+    told = as_given(told, after)
+    groups = {**groups_of(*told.values()), "/t/s.slice": Group("/t/s.slice", 7, cpus("0-7"))}
+    commands, _ = looked(after, told=told, groups=groups)
+    check("once", told_of(commands), [])
+
+
+@case
+def refused_at_once() -> None:
+    """An id that is none, and the group of another one: each is said once, and told again once it is another one."""
+    told = {"a b": found("a b", config_of()), "..": found("..", config_of()), "x" * 65: found("x" * 65, config_of()), "one": found("one", config_of()),
+            "two": found("two", config_of(), path="/t/one")}
+    commands, ledger = looked(ledger_of(), told=told, groups=groups_of(*told.values()))
+    check("refused", sorted(line for line in said(commands) if line.startswith("refused")), sorted([
+        "refused E91 BadId: a b /g/a b", "refused E91 BadId: .. /g/..", f"refused E91 BadId: {'x' * 65} /g/{'x' * 65}", "refused: its group is that of one: two /g/two"]))
+    check("told", told_of(commands), ["create one -"])
+    told = as_given(told, ledger)
+    commands, ledger = looked(ledger, told=told, groups=groups_of(*told.values()))
+    check("said once", (said(commands), sorted(ledger.refused)), ([], sorted(["a b", "..", "x" * 65, "two"])))
+    del told["one"]
+    told["two"] = dataclasses.replace(told["two"], group=dataclasses.replace(told["two"].group, populated=False))
+    commands, ledger = looked(ledger, told=told, groups=groups_of(*told.values()))
+    check("as long as it is as it was", told_of(commands), [])
+    told["two"] = dataclasses.replace(told["two"], stamp=("other",))
+    commands, ledger = looked(ledger, told=told, groups=groups_of(*told.values()))
+    check("another config", (told_of(commands), sorted(ledger.refused)), (["adopt two 0-7"], sorted(["a b", "..", "x" * 65])))
+    commands, ledger = looked(ledger, told={}, groups={})
+    check("all are gone", (ledger.refused, ledger.problems), ({}, {}))
+
+
+@case
+def with_homes() -> None:
+    """A newcomer's home is said once it is told."""
+    new = found("a", asks(2))
+    commands, ledger = looked(ledger_of(members=FOUR), told={"a": new}, groups=groups_of(new))
+    check("its home", [line for line in said(commands) if line.startswith(("create", "home"))], ["create a /g/a", "home a 0"])
+    check("is kept", print_list(ledger.containers["a"].home or ()), "0")
+
+
+@case
+def without_a_tree() -> None:
+    """Where nothing is written, one whose config is there in part is as it was, and one without a config has ended."""
+    new = found("a", asks(2))
+    commands, ledger = looked(ledger_of(root=None), told={"a": new})
+    check("told", told_of(commands), ["create a -"])
+    commands, ledger = looked(ledger, told={"a": Missing(new.told, "not JSON", in_parts=True)})
+    check("in part", (said(commands), list(ledger.containers)), ([], ["a"]))
+    commands, ledger = looked(ledger, told={"a": Missing(new.told, "no file")})
+    check("gone", ("ended a" in said(commands), list(ledger.containers)), (True, []))
+
+
+@case
+def held_up() -> None:
+    """No plan while somebody runs on CPUs who can't be told of: a write that fails, and a group that an agent told of before."""
+    new, fault = found("a", asks(2), "4-5"), {"adopt": ["refused E50 KernelFault"]}
+    commands, ledger = looked(ledger_of(), fault, told={"a": new}, groups=groups_of(new))
+    check("a write that fails", (told_of(commands), [type(each) for each in commands if isinstance(each, (Unlink, Drop))], sorted(ledger.blocking), ledger.due),
+          (["adopt a 4-5"], [Unlink, Drop], ["a"], False))
+    ledger.due = True
+    commands, ledger = looked(ledger, fault, told={"a": new}, groups=groups_of(new), now=10.5)
+    check("no plan, and no other try in the pause", (told_of(commands), [each for each in commands if isinstance(each, Ask)], ledger.due), ([], [], True))
+    commands, ledger = looked(ledger, told={"a": new}, groups=groups_of(new), now=11.0)
+    check("told again", (told_of(commands), ledger.blocking, [each.line for each in commands if isinstance(each, Ask)][-1], ledger.due),
+          (["adopt a 4-5"], {}, "step", False))
+    for has, kept, expected in (("4-5", 7, True), ("", 7, True), ("0", 7, False), ("4-5", 8, False)):
+        ledger = ledger_of()
+        ledger.taken, ledger.due = {"/t/x": Taken(kept, "", "", False)}, True
+        commands, ledger = looked(ledger, groups={"/t/x": Group("/t/x", 7, cpus(has), populated=True)})
+        says = ["unseen /t/x: it was told of before, and there is a process in it: no plan until it is told"] if expected else []
+        check(f"a group of nobody on {has!r}", ([line for line in said(commands) if line.startswith("unseen")], ledger.due), (says, expected))
+    ledger.taken, ledger.due = {"/t/x": Taken(7, "", "", True)}, True
+    check("one of the system", looked(ledger, groups={"/t/x": Group("/t/x", 7, cpus("4"), populated=True)})[1].due, False)
+
+
+# What changes.
+
+
+@case
+def followed() -> None:
+    """Another config is told as it is: of one that is pinned where there is room, of one that is to be pinned once it waits, of one that is not any more
+    at once; one that is what it is given is not told."""
+    def after(state: State, before: Mapping[str, Any], config: Mapping[str, object], **answers: Any) -> Tuple[List[str], Any]:
+        ledger = ledger_of(one("a", state, cpus=cpus("1-2"), **before))
+        turn = Turn(ledger, Look(10.0))
+        steps = changes.follow(turn, "a", dataclasses.replace(ledger.containers["a"].seen, stamp=("new",), config=config))
+        commands, changed = done(steps, answers)
+        now = ledger.containers["a"]
+        return told_of(commands), (changed, now.state, now.demand.count, now.wanted.count if now.wanted else None)
+
+    check("more", after(State.PINNED, asking(2), asks(3)), ([], (True, State.PINNED, 2, 3)))
+    check("the same", after(State.PINNED, asking(2), asks(2)), ([], (False, State.PINNED, 2, None)))
+    check("what it is given", after(State.PINNED, asking(3, 2), configs.fewer(Demand(asks(3), 3), 2).config), ([], (False, State.PINNED, 2, None)))
+    check("what it wants already", after(State.PINNED, asking(2, wanted=3), configs.fewer(Demand(asks(2), 2), 3).config), ([], (False, State.PINNED, 2, 3)))
+    check("none of its own", after(State.PINNED, asking(2), config_of()), (["update a -"], (True, State.SHARED, None, None)))
+    check("some of its own", after(State.SHARED, asking(2, 0), asks(3)), (["update a -"], (True, State.WAITING, 3, None)))
+    check("what can't be had", after(State.SHARED, asking(2, 0), asks(3), update=["refused E63 NoSuchCpu 9"]), (["update a -"], (False, State.SHARED, 2, None)))
+
+
+@case
+def follows_at_its_time() -> None:
+    ledger = ledger_of(one("a", State.PINNED, cpus=cpus("1-2"), **asking(2)))
+    turn = Turn(ledger, Look(10.0))
+    new = dataclasses.replace(ledger.containers["a"].seen, stamp=("new",), config=asks(3))
+    ledger.pauses["update", ""] = Pause(11.0, 1.0)
+    check("in a pause", (done(changes.follow(turn, "a", new))[1], ledger.containers["a"].wanted), (False, None))
+    ledger.pauses.clear()
+    ledger.problems[Topic.CONTAINER, "a"] = Problem(Kind.KEEPS, "a", "a")
+    ledger.change("a", **asking(3, 2, 4))
+    done(changes.follow(turn, "a", dataclasses.replace(new, config=ledger.containers["a"].given.config)))
+    check("what it is given settles what it wanted", (ledger.problems, ledger.containers["a"].wanted), ({}, None))
+    ledger.put(one("s", State.PINNED, cpus=cpus("3"), **asking(1)))
+    stopped = dataclasses.replace(ledger.containers["s"].seen, stopped=True, config=asks(1))
+    commands, changed = done(changes.follow(turn, "s", stopped))
+    check("stopped", (told_of(commands), changed, ledger.containers["s"].state, [line[:9] for line in said(commands)]),
+          (["update s -"], True, State.STOPPED, ["update s ", "stopped s"]))
+    ledger.put(one("f", State.PINNED, cpus=cpus("3"), **asking(1)))
+    done(changes.follow(turn, "f", dataclasses.replace(ledger.containers["f"].seen, stamp=("new",), config=config_of())), {"update": ["refused E50 KernelFault"]})
+    check("a write that fails is tried again", (ledger.containers["f"].seen.stamp, ledger.unmade, ledger.pauses["update", ""].until), (None, True, 11.0))
+
+
+@case
+def mended() -> None:
+    """What others wrote is written again: first each gives back what is another one's, and who can't be told of keeps what it has."""
+    def looks(*has: Tuple[str, str], more: Sequence[Found] = (), fault: Mapping[str, Sequence[str]] = {}) -> Tuple[List[str], List[str], Ledger]:
+        ledger = ledger_of(one("a", State.PINNED, cpus=cpus("1-2"), **asking(2)), one("b", State.PINNED, cpus=cpus("3"), **asking(1)),
+                           one("s", State.SHARED, cpus=cpus("0,4-7")), one("t", State.SHARED, cpus=cpus("0,4-7")))
+        told: Dict[str, Found] = {}
+        for name, text in {"a": "1-2", "b": "3", "s": "0,4-7", "t": "0,4-7", **dict(has)}.items():
+            now = dataclasses.replace(ledger.containers[name].seen.group, cpus=cpus(text), populated=True)
+            seen = dataclasses.replace(ledger.containers[name].seen, config=ledger.containers[name].demand.config)
+            ledger.change(name, seen=seen)
+            told[name] = Found(seen.told, seen.stamp or (), seen.config, now)
+        told.update({each.told.bundle[3:]: each for each in more})
+        commands, after = looked(ledger, fault, told=told, groups=groups_of(*told.values()))
+        steps = [f"write {each.path[3:]} {each.text}" if isinstance(each, Write) else f"adopt {each.name} {print_list(each.cpus)}" for each in commands
+                 if isinstance(each, Write) or (isinstance(each, Tell) and each.verb is Verb.ADOPT)]
+        return steps, [line for line in said(commands) if line.startswith("drift")], after
+
+    again = "that is written again"
+    check("as it was given", looks()[:2], ([], []))
+    check("others' CPUs", looks(("a", "5"))[:2], (["adopt a 1-2"], [f"drift a has 5 in place of 1-2: {again}"]))
+    check("each other's", looks(("a", "3"), ("b", "1"))[0], ["write a 0", "write b 0", "adopt a 1-2", "adopt b 3"])
+    check("one is in the way of the other", looks(("a", "0"), ("b", "2,3"))[0], ["write b 0", "adopt a 1-2", "adopt b 3"])
+    check("none is in the way", looks(("a", "5"), ("b", "6"))[0], ["adopt a 1-2", "adopt b 3"])
+    check("on the pool they share", looks(("s", "4"), ("t", "5"))[0], ["adopt s 0,4-7", "adopt t 0,4-7"])
+    check("one of the pool on another one's own", looks(("a", "0"), ("s", "1"))[0], ["write s 0", "adopt a 1-2", "adopt s 0,4-7"])
+    steps, lines, after = looks(("a", "0"), more=[found("new", asks(2), "2,5")], fault={"adopt new": ["refused E50 KernelFault"], "create": ["refused E50 KernelFault"]})
+    waits = "drift a has 0 in place of 1-2: another group requests some of these, and can't be told of yet"
+    check("another group is there", (steps[:1], lines), (["adopt new 2,5"], [waits]))
+    check("on its way to be told", looks(("a", "0"), more=[found("new", config_of(), "6")])[0][:1], ["adopt a 1-2"])
+
+
+@case
+def nodes() -> None:
+    """Nodes that are no limit which a container follows are written again."""
+    ledger = ledger_of(members=FOUR)
+    for has, own, given, expected in (("0", "0", None, False), ("1", "0", None, False), ("1", "0", "1", True), ("", "0", None, True), ("9", "0", None, True), (None, "0", None, False),
+                                      ("0-3", None, None, False)):
+        seen = dataclasses.replace(sighting(), nodes=None if given is None else cpus(given))
+        held = dataclasses.replace(container("a", State.PINNED, 1), seen=seen, nodes=None if own is None else cpus(own))
+        now = sighting(nodes=None if has is None else cpus(has))
+        check(f"{has} in place of {own}, {given}", changes.nodes_drifted(ledger, held, now), expected)
+        system = dataclasses.replace(now, told=Told("", None))
+        check(f"{has} in place of {own}, of the system", changes.nodes_drifted(ledger, held, system), expected or has == "1")
+
+
+@case
+def squeezed() -> None:
+    """Who had a plan and has not in effect what it was given of the CPUs that run."""
+    for state, has, given, running, expected in ((State.PINNED, "1", "1-2", "0-7", True), (State.PINNED, "1-2", "1-2", "0-7", False), (State.PINNED, "1", "1-2", "0-1,3-7", False),
+                                                 (State.ASKING, "1", "1-2", "0-7", False), (State.SHARED, "1", "1-2", "0-7", False), (State.KEPT, "1", "1-2", "0-7", True),
+                                                 (State.PINNED, "0-7", "1-2", "0,3-7", False)):
+        ledger = ledger_of(one("a", state, cpus=cpus(given)))
+        ledger.running = cpus(running)
+        turn, seen = Turn(ledger, Look(0.0)), sighting(effective=cpus(has))
+        commands, _ = done(changes.compare_effective(turn, ledger.containers["a"], seen))
+        check(f"{state} {has} {given} {running}", said(commands), [f"squeezed a: {has} in effect in place of {given}"] if expected else [])
+    done(changes.compare_effective(turn, ledger.containers["a"], sighting()))
+    check("where nothing is told of it", ledger.problems, {})
+    held = one("a", State.PINNED, cpus=cpus("1-2"), **asking(2))
+    now = Found(held.seen.told, ("s",), {}, dataclasses.replace(held.seen.group, cpus=cpus("1-2"), effective=cpus("1")))
+    commands, _ = looked(ledger_of(held), told={"a": now}, groups=groups_of(now))
+    check("in a look", [line for line in said(commands) if line.startswith("squeezed")], ["squeezed a: 1 in effect in place of 1-2"])
+
+
+@case
+def late_writes() -> None:
+    """A group that came in the place of one that ended, with what that one was given, is brought to the reserved CPUs; of one before a restart too."""
+    def after(has: str, inode: int = 8, **more: Any) -> List[str]:
+        ledger = ledger_of(one("a", State.PINNED, cpus=cpus("1-2"), **asking(2)))
+        for name, value in more.items():
+            setattr(ledger, name, value)
+        commands, _ = looked(ledger, told={}, groups={"/t/a": Group("/t/a", inode, cpus(has), populated=True)})
+        return [f"{each.path} {each.text}" for each in commands if isinstance(each, Write)]
+
+    check("what the one before was given", (after("1-2"), after("3"), after("1-2", 1)), (["/t/a 0"], [], []))
+    renewed = {"/t/a": Taken(1, "", "", False)}
+    check("of one before a restart", (after("5", renewed=renewed, containers={}), after("0", renewed=renewed, containers={}), after("", renewed=renewed, containers={})), (["/t/a 0"], [], []))
+    check("the system's own", after("5", renewed={"/t/a": Taken(1, "", "", True)}, containers={}), [])
+    check("no group of this tree", after("5", renewed={"/u/a": Taken(1, "", "", False)}, containers={}), [])
+
+
+# Few CPUs.
+
+
+@case
+def floor() -> None:
+    """What fits where the pool keeps some CPUs."""
+    for running, given, keeps, wanted, takes, expected in (("0-7", 2, 2, 4, 4, 4), ("0-7", 2, 2, 5, 5, None), ("0-7", 2, 2, 6, 2, 4), ("0-7", 6, 2, 1, 1, None), ("0-7", 7, 2, 1, 1, None),
+                                                           ("0-7", 2, 0, 8, 8, 8), ("0-7", 2, 2, 9, 1, 9), ("0-3", 2, 2, 1, 1, None), ("0-7", 2, 2, 0, 1, 0)):
+        ledger = ledger_of(one("p", State.PINNED, **asking(given)), one("w", State.WAITING, **least(wanted, takes, 0)), pool_least=keeps)
+        ledger.running = cpus(running)
+        fits = room.fit_to_pool(ledger, ledger.containers["w"], ledger.containers["w"].demand)
+        check(f"{running} {given} {keeps} {wanted} {takes}", fits.count if fits else None, expected)
+    ledger = ledger_of(one("p", State.PINNED, **asking(3)), one("q", State.ASKING, **asking(2)), one("w", State.WAITING, **asking(1, 0)), one("s", State.SHARED), pool_least=2)
+    check("left", (room.left_to_the_pool(ledger), room.pool_text(ledger, 2), room.pool_text(ledger, 9)),
+          (1, "it would leave 1 CPUs to the pool, and that keeps 2", "it would leave 0 CPUs to the pool, and that keeps 2"))
+    pairs = ledger_of(one("p", State.PINNED, **asking(4)), one("w", State.WAITING, **least(8, 2, 0)), members=FOUR, pool_least=5)
+    fits = room.fit_to_pool(pairs, pairs.containers["w"], pairs.containers["w"].demand)
+    check("in whole cores", fits.count if fits else None, 6)
+    held = one("p", State.PINNED, **asking(3))
+    ledger = ledger_of(held, pool_least=6)
+    check("what it has it may have", [fit.count if fit else None for fit in (room.fit_to_pool(ledger, held, Demand(asks(count), count)) for count in (2, 3, 4))], [2, 3, None])
+
+
+@case
+def who_wants() -> None:
+    """Who waits, takes fewer, or has another limit by now; first those who give some back."""
+    ledger = ledger_of(one("waits", State.WAITING, **asking(2, 0)), one("has", State.PINNED, **asking(2)), one("fewer", State.PINNED, **asking(3, 1)),
+                       one("more", State.PINNED, **asking(2, wanted=3)), one("back", State.PINNED, **asking(3, wanted=1)), one("same", State.PINNED, **asking(3, wanted=3)), one("s", State.SHARED))
+    check("who", room.wanting(Turn(ledger, Look(0.0))), ["back", "waits", "fewer", "more", "same"])
+
+
+@case
+def may_stay() -> None:
+    """One that is never moved may get more beside what it has, or be left some of that."""
+    stay: Mapping[str, object] = {"annotations": {"numarun.stay": "true"}}
+    for state, holds, config, expected in ((State.PINNED, "1-2", stay, True), (State.PINNED, "1-3", stay, True), (State.PINNED, "1", stay, True), (State.PINNED, "2-3", stay, False),
+                                           (State.PINNED, "", stay, True), (State.PINNED, "2-3", config_of(), True), (State.WAITING, "4-5", stay, True)):
+        held = dataclasses.replace(container("a", state, 2, cpus=cpus("1-2")), seen=sighting(config=config))
+        check(f"{state} {holds} {config is stay}", room.may_be(held, {"a": cpus(holds)} if holds else {}), expected)
+
+
+@case
+def most_of_it() -> None:
+    """From what one wants down to what it takes, or has already, the most for which there is a plan."""
+    def tried(held: Any, wanted: Demand, *several: Sequence[str]) -> Tuple[List[Optional[int]], Optional[int], Optional[str]]:
+        turn, left = Turn(ledger_of(held), Look(0.0)), list(several)
+        trial = room.Trial(turn, {"a"} if held.state.is_pinned else set())
+        steps, told = room.most(trial, held, wanted), []
+        try:
+            command = next(steps)
+            while True:
+                told += [configs.asked(command.config, configs.Pin.ALL, turn.ledger.settings.machine)] if isinstance(command, Tell) else []
+                lines = left.pop(0) if isinstance(command, Ask) and command.line == "rebalance" else ["ok"]
+                command = steps.send(Answer(tuple(lines)))
+        except StopIteration as end:
+            given, why = end.value
+            return told, given.count if given else None, why.text if why else None
+
+    def short(demand: int, allowed: str) -> Sequence[str]:
+        return [f"short demand {demand} allowed {allowed}", "member a", "end"]
+
+    plan = ["plan total 0", "hold a 1-2", "pool 0", "end"]
+    flexible = one("a", State.PINNED, cpus=cpus("1"), **least(5, 1, 1))
+    rows: Sequence[Tuple[Any, Demand, Sequence[Sequence[str]], object]] = (
+        (flexible, flexible.demand, [plan], ([5], 5, None)), (flexible, flexible.demand, [short(5, "1-3"), plan], ([5, 3], 3, "short demand 5 allowed 1-3 member a")),
+        (flexible, flexible.demand, [short(5, "1-3"), short(3, "1-2"), plan], ([5, 3, 2], 2, "short demand 3 allowed 1-2 member a")),
+        (flexible, flexible.demand, [short(5, "1")], ([5, 1], None, "short demand 5 allowed 1 member a")),
+        (one("a", State.WAITING, **least(5, 1, 0)), flexible.demand, [short(5, "1"), plan], ([5, 1], 1, "short demand 5 allowed 1 member a")),
+        (one("a", State.WAITING, **least(5, 4, 0)), least(5, 4)["demand"], [short(5, "1"), short(4, "1")], ([5, 4], None, "short demand 4 allowed 1 member a")),
+        (one("a", State.WAITING, **asking(5, 0)), asking(5)["demand"], [short(5, "1")], ([5], None, "short demand 5 allowed 1 member a")),
+        (flexible, flexible.demand, [["refused E90 Busy"]], ([5, 1], None, "refused E90 Busy")),
+    )
+    for held, wanted, answers, expected in rows:
+        check(f"{held.state} {wanted.count} {len(answers)}", tried(held, wanted, *answers), expected)
+
+
+@case
+def shrunk() -> None:
+    """As far as one takes it, in whole cores, and at least a core."""
+    rows: Sequence[Tuple[Mapping[str, object], Mapping[str, Any], int, Optional[int]]] = (
+        (EIGHT, least(4, 1), 1, 3), (EIGHT, least(4, 2), 3, 2), (EIGHT, least(4, 4), 1, None), (EIGHT, asking(4), 1, None), (EIGHT, least(4, 1), 9, 1), (EIGHT, least(4, 2, 2), 1, None),
+        (FOUR, least(4, 1), 1, 2), (FOUR, least(4, 3), 1, None), (FOUR, least(6, 3), 1, 4), (FOUR, least(6, 1), 4, 2), (EIGHT, asking(4, 0), 1, None))
+    for members, demand, missing, expected in rows:
+        turn = Turn(ledger_of(one("a", State.ASKING, **demand), members=members), Look(0.0))
+        commands, did = done(room.shrink(turn, "a", missing))
+        check(f"{demand['demand'].count} {missing}", (did, turn.ledger.containers["a"].given.count if did else None, len(told_of(commands))),
+              (expected is not None, expected, int(expected is not None)))
+
+
+@case
+def eased() -> None:
+    """In a shortage the youngest newcomer asks for less, or waits; where there is none, one that is never moved may have others, then the youngest that
+    takes fewer, and then the youngest waits."""
+    def after(*several: Any, members: Sequence[str] = ("a", "b", "c")) -> Tuple[bool, List[Tuple[str, State, Optional[int]]]]:
+        turn = Turn(ledger_of(*several), Look(0.0))
+        _, did = done(room.ease(turn, Shortage(6, cpus("1-5"), tuple(members), "short demand 6 allowed 1-5")))
+        now = [(held.name, held.state, held.given.count) for held in turn.ledger.containers.values()]
+        return did, [each for each, before in zip(now, several) if each != (before.name, before.state, before.given.count)]
+
+    pinned, stays = one("a", State.PINNED, **asking(2)), one("b", State.PINNED, **{**asking(2), "given": configs.staying(asking(2)["demand"], cpus("1-2"))})
+    check("the newcomer", after(pinned, one("b", State.ASKING, **asking(2)), one("c", State.ASKING, **least(3, 1))), (True, [("c", State.ASKING, 2)]))
+    check("that takes no fewer", after(pinned, one("b", State.ASKING, **least(2, 1)), one("c", State.ASKING, **asking(2))), (True, [("c", State.WAITING, None)]))
+    check("an older one comes behind it", after(one("a", State.ASKING, **asking(2)), pinned_as("b"), pinned_as("c")), (True, [("a", State.WAITING, None)]))
+    check("the youngest that takes fewer", after(pinned, one("b", State.PINNED, **least(3, 1)), pinned_as("c")), (True, [("b", State.PINNED, 2)]))
+    check("the youngest waits", after(pinned, pinned_as("b"), pinned_as("c")), (True, [("c", State.WAITING, None)]))
+    check("of the members", after(pinned, pinned_as("b"), pinned_as("c"), members=("a", "b")), (True, [("b", State.WAITING, None)]))
+    turn = Turn(ledger_of(pinned, stays, pinned_as("c")), Look(0.0))
+    done(room.ease(turn, Shortage(6, cpus("1-5"), ("a", "b", "c"), "")))
+    check("one that is never moved may have others", (turn.ledger.containers["b"].given, turn.ledger.containers["c"].state), (asking(2)["demand"], State.PINNED))
+    check("nobody", after(one("s", State.SHARED), members=()), (False, []))
+
+
+def pinned_as(name: str) -> Any:
+    return one(name, State.PINNED, **asking(1))
+
+
+@case
+def spared() -> None:
+    """As long as the pool has too few the youngest newcomers ask for less, or wait; those who have theirs keep them."""
+    turn = Turn(ledger_of(one("a", State.PINNED, **asking(2)), one("b", State.ASKING, **asking(1)), one("c", State.ASKING, **least(3, 1)), one("d", State.ASKING, **asking(2)), pool_least=3), Look(0.0))
+    commands, _ = done(room.spare_the_pool(turn))
+    check("who", {name: (held.state, held.given.count) for name, held in turn.ledger.containers.items()},
+          {"a": (State.PINNED, 2), "b": (State.ASKING, 1), "c": (State.ASKING, 2), "d": (State.WAITING, None)})
+    check("said", said(commands), ["waits d: it would leave 0 CPUs to the pool, and that keeps 3: it runs on the pool until there is room"])
+    commands, _ = done(room.spare_the_pool(turn))
+    check("it is enough", commands, [])
+
+
+@case
+def said_of_fewer() -> None:
+    ledger = ledger_of(one("a", State.PINNED, **asking(3, 2)), one("b", State.PINNED, **asking(2)), one("c", State.PINNED, **asking(3, 2, 4)), one("w", State.WAITING, **asking(3, 0)))
+    ledger.problems[Topic.CONTAINER, "b"] = Problem(Kind.FEWER, "b", "b")
+    commands, _ = done(room.say_fewer(Turn(ledger, Look(0.0))))
+    check("said", (said(commands), sorted(of for _, of in ledger.problems)), (["fewer a: 2 of 3 CPUs, as there are no more"], ["a"]))
+
+
+# Plans.
+
+
+@case
+def counted() -> None:
+    ledger = ledger_of(one("a", State.PINNED, cpus=cpus("1-2")), one("b", State.PINNED, cpus=cpus("3")))
+    ledger.pool = cpus("0,4-7")
+    outcome = Outcome("plan total 52", 52, {"a": cpus("1-2"), "b": cpus("4")}, cpus("0,3,5-7"))
+    check("what changes", plans.changes_of(ledger, outcome), ["hold b 4", "pool 0,3,5-7"])
+    plans.count_plan(ledger, outcome, 1)
+    plans.count_plan(ledger, outcome, 2)
+    check("figures", [ledger.counts[name] for name in ("plans_total", "moves_total", "distance", "distance_beyond_local")], [2, 3, 52, 22])
+    reply = ["plan total 41", "hold a 1-2", "hold b 4", "pool 0,3", "end"]
+    found_here = room.outcome_of(plans_reply(reply))
+    check("a plan", (found_here.total, found_here.holds, found_here.pool, found_here.shortage), (41, {"a": cpus("1-2"), "b": cpus("4")}, cpus("0,3"), None))
+    short = room.outcome_of(plans_reply(["short demand 4 allowed 1-3", "member a", "member b", "end"])).shortage
+    check("a shortage", short and (short.demand, short.allowed, short.members, short.missing), (4, cpus("1-3"), ("a", "b"), 1))
+    check("a refusal", room.outcome_of(plans_reply(["refused E90 Busy"])), Outcome("refused E90 Busy"))
+
+
+def plans_reply(lines: Sequence[str]) -> Reply:
+    return Reply(tuple(lines))
+
+
+@case
+def handed_over() -> None:
+    """A plan that is handed over makes who asks pinned; a write that fails leaves it due, is said once, and is tried at growing pauses."""
+    ledger = ledger_of(one("a", State.ASKING, **asking(2)), one("s", State.SHARED))
+    ledger.due = True
+    answers = {"begin": ["plan total 20", "hold a 1-2", "pool 0,3-7", "end"]}
+    held = {name: Found(Told("/b", "/f"), ("s",), {}, Group(f"/t/{name}", 1)) for name in "as"}
+    for name in "as":
+        ledger.change(name, seen=dataclasses.replace(ledger.containers[name].seen, config={}))
+    failing = {**answers, "step": ["refused E50 KernelFault"], "sets": ["cpus 1 effective 1 mems 0 effective 0"]}
+    commands, ledger = looked(ledger, failing, told=held, groups=groups_of(*held.values()))
+    check("a write that fails", (said(commands), ledger.due, ledger.containers["a"].cpus, ledger.containers["a"].state),
+          (["plan total 20", "hold a 1-2", "pool 0,3-7", "failed refused E50 KernelFault"], True, cpus("1"), State.ASKING))
+    commands, ledger = looked(ledger, failing, told=held, groups=groups_of(*held.values()), now=10.5)
+    check("a pause", commands, [])
+    ledger.change("a", cpus=None)
+    ledger.change("s", cpus=None)
+    commands, ledger = looked(ledger, answers, told=held, groups=groups_of(*held.values()), now=11.5)
+    check("and then", (said(commands)[-1], ledger.due, ledger.containers["a"].state, [print_list(each.cpus or ()) for each in ledger.containers.values()], ledger.problems, ledger.tried),
+          ("done", False, State.PINNED, ["1-2", "0,3-7"], {}, None))
