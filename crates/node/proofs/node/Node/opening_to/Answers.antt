@@ -12,4 +12,4 @@ new-handover-requires g c =
     c.in_ok-entries.entries.items (search rules) c.reserved.result (search rules)
 
 pub returns-clause-stands : goal.returns-clause-stands
-returns-clause-stands g c = opened_stands _ _ c.self.view_is c.self.invariant.node c.args.sets.now c.requires _ (search rules)
+returns-clause-stands g c = opened_stands _ _ c.self.view_is c.self.invariant.node c.args.sets.now c.requires c.args.order _ (search rules)
