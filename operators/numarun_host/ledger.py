@@ -197,6 +197,7 @@ class Ledger:
     due: bool = False     # whether a plan is to be worked out though nothing happened
     unmade: bool = False  # whether an update was not made, since a write failed
     spent: bool = False   # whether numarun has no pids left, so that a new run is wanted
+    direct: bool = True   # whether numarun knows direct hand-overs, as far as it was asked
     started: bool = False
     wrong: bool = False   # whether there was an event that was refused
     ending: bool = False

@@ -62,7 +62,9 @@ const RUN_HELP: &str =
     \x20 list                  the status of each container\n\
     \x20 sets ID               the CPUs and memory nodes that it has\n\
     \x20 rebalance             work out a plan and move all containers onto it\n\
+    \x20 rebalance direct      the same, each moved at once if nobody has its new CPUs\n\
     \x20 begin                 work out a plan and begin to move the containers onto it\n\
+    \x20 begin direct          the same, to be moved as by rebalance direct\n\
     \x20 step                  make the next write of that hand-over\n\
     \x20 phase                 whether a hand-over is underway\n\
     \x20 certificate           the certificate of the last plan or shortage\n\
