@@ -1,7 +1,7 @@
 -- Which CPUs are given of places: the first ones of whole cores, and some where one can be given.
-use Rattle.std.proofs.Common.{◌≡◌, ◌≢◌, inl, inr, ℕ, zero, suc, ◌+◌, ◌-◌, ◌*◌, ◌<◌, ◌≤◌, Bool, true, false, cond, ◌&&◌, nat_lt, refl, sym, ap, ◌∙◌, subst, arith}
+use Rattle.std.proofs.Common.{◌≡◌, inl, inr, ℕ, zero, suc, ◌+◌, ◌-◌, ◌*◌, ◌<◌, ◌≤◌, Bool, true, false, cond, ◌&&◌, nat_lt, refl, sym, ap, ◌∙◌, subst, arith}
 use Rattle.std.proofs.Math.Nat.{suc-mul}
-use Rattle.std.proofs.lemmas.Bool.{false≢true}
+use Rattle.std.proofs.lemmas.Bool.{false≢true, eqb-true}
 use Rattle.std.proofs.lemmas.Bool.Decides.{nat_tests}
 use Rattle.std.proofs.lemmas.Grind.{div_ceil_times}
 use Rattle.std.specs.Int.{div_ceil}
@@ -131,6 +131,7 @@ module _ (s : Ids) where
     has : (q : ℕ) → set.contains taken q ≡ (nat_lt q (bound next) && set.contains s q)
     counts : left + count_below s (bound next) ≡ count
     member : IfSome next (λ n. set.contains s n ≡ true)
+    in_range : IfSome next (λ n. IsCpu n)
     limit : bound next ≤ CPU_LIMIT
 
   -- it has come on, if nothing lies between
@@ -161,46 +162,54 @@ module _ (s : Ids) where
           has = same CPU_LIMIT limit between;
           counts = let e : count_below s CPU_LIMIT ≡ count_below s from = none_between from CPU_LIMIT limit between in omega (arith, e, counts);
           member = tt;
+          in_range = tt;
           limit = omega arith;
         }
     by (Some n) first cpu = record {
       has = same n first.above first.least;
       counts = let e : count_below s n ≡ count_below s from = none_between from n first.above first.least in omega (arith, e, counts);
       member = first.member;
+      in_range = cpu;
       limit = omega (arith, cpu);
     }
 
-  pub walk_begins : (count : ℕ) (next : Option ℕ) → MatchOption next (NoneFrom s 0) (λ n. IsFirstFrom s 0 n) → IfSome next (λ n. IsCpu n)
-      → Walks count set.empty count next
-  walk_begins count next found in_range =
-      goes_on count set.empty count 0 next (λ q. contains-empty q ∙ ap (λ l. l && set.contains s q) (sym (of_ge q 0 (omega arith)))) (omega (arith, count_none)) (omega arith) found in_range
+  pub walk_begins : (count : ℕ) (taken : Ids) → taken ≡ set.empty → (next : Option ℕ) → MatchOption next (NoneFrom s 0) (λ n. IsFirstFrom s 0 n)
+      → IfSome next (λ n. IsCpu n) → Walks count taken count next
+  walk_begins count taken none next found in_range =
+      goes_on count taken count 0 next
+      (λ q. ap (λ t. set.contains t q) none ∙ contains-empty q ∙ ap (λ l. l && set.contains s q) (sym (of_ge q 0 (omega arith))))
+      (omega (arith, count_none)) (omega arith) found in_range
 
-  pub walk_goes_on : (count : ℕ) (taken : Ids) (left n : ℕ) (next : Option ℕ) → Walks count taken left (Some n) → left ≢ 0 → IsCpu n
-      → MatchOption next (NoneFrom s (n + 1)) (λ m. IsFirstFrom s (n + 1) m) → IfSome next (λ m. IsCpu m) → Walks count (set.insert taken n) (left - 1) next
-  walk_goes_on count taken left n next w some cpu found in_range =
-      goes_on count (set.insert taken n) (left - 1) (n + 1) next has (omega (arith, counted, w.counts, one, count_more n)) (omega (arith, cpu)) found in_range where
+  pub walk_goes_on : (count : ℕ) (taken : Ids) (left n : ℕ) (more : Ids) (next : Option ℕ) → Walks count taken left (Some n) → (left == 0) ≡ false
+      → more ≡ set.insert taken n → MatchOption next (NoneFrom s (n + 1)) (λ m. IsFirstFrom s (n + 1) m) → IfSome next (λ m. IsCpu m)
+      → Walks count more (left - 1) next
+  walk_goes_on count taken left n more next w some is found in_range =
+      goes_on count more (left - 1) (n + 1) next has (let c = w.counts in omega (arith, counted, c, one, count_more n)) (let cpu = w.in_range in omega (arith, cpu)) found in_range where
         one : cond {A = ℕ} (set.contains s n) 1 0 ≡ 1
         one = ap (λ x. cond {A = ℕ} x 1 0) w.member
 
         counted : 1 ≤ left
         counted = by left some where
-          by : (l : ℕ) → l ≢ 0 → 1 ≤ l
-          by zero no = absurd (no refl)
+          by : (l : ℕ) → (l == 0) ≡ false → 1 ≤ l
+          by zero no = absurd (false≢true (sym no))
           by (suc l) no = omega arith
 
         added : (q : ℕ) (b : Bool) → (n ≡ q → b ≡ true) → ((q == n) || (nat_lt q n && b)) ≡ (nat_lt q (n + 1) && b)
         added q b f = grind (arith, nat_tests)
 
-        has : (q : ℕ) → set.contains (set.insert taken n) q ≡ (nat_lt q (n + 1) && set.contains s q)
-        has q = contains-insert taken n q ∙ ap (λ b. (q == n) || b) (w.has q) ∙ added q (set.contains s q) (λ is. ap (set.contains s) (sym is) ∙ w.member)
+        has : (q : ℕ) → set.contains more q ≡ (nat_lt q (n + 1) && set.contains s q)
+        has q = ap (λ t. set.contains t q) is ∙ contains-insert taken n q ∙ ap (λ b. (q == n) || b) (w.has q) ∙ added q (set.contains s q) (λ same. ap (set.contains s) (sym same) ∙ w.member)
 
-  pub walk_has_enough : (count : ℕ) (taken : Ids) (left n : ℕ) → Walks count taken left (Some n) → left ≡ 0 → taken ≡ first_of count s
-  walk_has_enough count taken left n w none =
+  pub walk_has_enough : (count : ℕ) (taken : Ids) (left n : ℕ) → Walks count taken left (Some n) → (left == 0) ≡ true → taken ≡ first_of count s
+  walk_has_enough count taken left n w empty =
+      let none : left ≡ 0 = eqb-true left 0 empty in
       let all : count_below s n ≡ count = (let c = w.counts in omega (arith, c, none)) in
       first_is taken count n w.limit (omega (arith, all)) (inr all) w.has
 
-  pub walk_is_over : (count : ℕ) (taken : Ids) (left : ℕ) → Walks count taken left None → taken ≡ first_of count s
-  walk_is_over count taken left w = first_is taken count CPU_LIMIT (omega arith) (let c = w.counts in omega (arith, c)) (inl refl) w.has
+  pub walk_is_over : (count : ℕ) (taken : Ids) (left : ℕ) (next : Option ℕ) → Walks count taken left next → ((n : ℕ) → next ≡ Some n → ⊥)
+      → taken ≡ first_of count s
+  walk_is_over count taken left (Some n) w none = absurd (none n refl)
+  walk_is_over count taken left None w none = first_is taken count CPU_LIMIT (omega arith) (let c = w.counts in omega (arith, c)) (inl refl) w.has
 
 -- one core is wanted for one CPU, and one at least for more
 one_core : (k threads : ℕ) → 1 ≤ threads → k * threads < 1 + threads → k ≤ 1

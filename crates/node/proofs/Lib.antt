@@ -11,6 +11,7 @@ pub mod FirstLemmas
 pub mod NodeLemmas
 pub mod LeastLemmas
 pub mod OrderLemmas
+pub mod CourseLemmas
 pub mod StepLemmas
 pub mod FinishLemmas
 pub mod CallLemmas

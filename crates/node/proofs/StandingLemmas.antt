@@ -158,7 +158,7 @@ module _ (o : Ongoing) (n : NodeState) (was : n.ongoing ≡ Some o)
     (rests : (r : Result Progress KernelFault) (new : KernelState) → StepsBy o.order n.machine o n.kernel r new → (r ≡ Ok Done) × (new ≡ n.kernel)) where
   no_more : (mid : NodeState) → StepsOn n (Ok More) mid → ⊥
   no_more mid s =
-      let is : Ok More ≡ Ok Done = (rests (Ok More) mid.kernel (its_steps n o was mid (Ok More) n.phase n.ongoing s)).0 in let no : ⊥ = cc is in no
+      let no : ⊥ = cc (rests (Ok More) mid.kernel (its_steps n o was mid (Ok More) n.phase n.ongoing s)).0 in no
 
   abbrev settled : NodeState
   settled = record n { phase = Settled; ongoing = None }
@@ -171,7 +171,7 @@ module _ (o : Ongoing) (n : NodeState) (was : n.ongoing ≡ Some o)
 
   none_fails : (fault : KernelFault) (new : NodeState) → StepsOn n (Err (Kernel fault)) new → ⊥
   none_fails fault new s =
-      let is : Err fault ≡ Ok Done = (rests (Err fault) new.kernel (its_steps n o was new (Err fault) Unsettled None s)).0 in let no : ⊥ = cc is in no
+      let no : ⊥ = cc (rests (Err fault) new.kernel (its_steps n o was new (Err fault) Unsettled None s)).0 in no
 
   first_ends : (count : ℕ) (mid new : NodeState) → StepsMore count n mid → StepsOn mid (Ok Done) new → new ≡ settled
   first_ends zero mid new more ends = ends_here new (subst (λ (x : NodeState). StepsOn x (Ok Done) new) more ends)

@@ -34,8 +34,12 @@ fn finish_directly<K: Kernel>(
         → AllStepsBy Directly machine.now o (K.state kernel.old) result (K.state kernel.new) }
 {
     let cores = PlaceCores { machine };
-    while handover.step(kernel, &cores)? == Progress::More {}
-    Ok(())
+    'steps: loop {
+        match handover.step(kernel, &cores)? {
+            Progress::More => {}
+            Progress::Done => return Ok(()),
+        }
+    }
 }
 
 impl Course {

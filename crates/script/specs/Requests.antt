@@ -45,9 +45,10 @@ bare_command name =
     else if bytes_eq name (codes "certificate") then Some command.certificate
     else None
 
--- a command of the direct order, by the word behind its name
-abbrev pub directly : Asked → List ℕ → Option Asked
-directly command word = if bytes_eq word (codes "direct") then Some command else None
+-- a command of the direct order, by the text behind its name
+abbrev pub directly : Asked → Option (List ℕ) → Option Asked
+directly command None = None
+directly command (Some text) = if bytes_eq text (codes "direct") then Some command else None
 
 -- a name, and one word behind it
 abbrev pub short_command : List ℕ → List ℕ → Option Asked
@@ -60,8 +61,8 @@ short_command name word =
     else if bytes_eq name (codes "exit") then option_map command.exit (number_of word)
     else if bytes_eq name (codes "offline") then option_map command.offline (number_of word)
     else if bytes_eq name (codes "online") then option_map command.online (number_of word)
-    else if bytes_eq name (codes "rebalance") then directly (command.rebalance true) word
-    else if bytes_eq name (codes "begin") then directly (command.begin true) word
+    else if bytes_eq name (codes "rebalance") then directly (command.rebalance true) (text_of word)
+    else if bytes_eq name (codes "begin") then directly (command.begin true) (text_of word)
     else None
 
 -- a name, and two texts behind it

@@ -87,9 +87,9 @@ fn short_command<'a>(name: &str, word: &'a [u8]) -> Option<Command<'a>>
 
 /// A command of the direct order, if the word behind its name is `direct`.
 fn directly<'a>(command: Command<'a>, word: &[u8]) -> Option<Command<'a>>
-    ensures { option_map asked result ≡ directly (asked command) word.now }
+    ensures { option_map asked result ≡ directly (asked command.entry) (text_of word.now) }
 {
-    if word == b"direct".as_slice() {
+    if text(word)? == "direct" {
         Some(command)
     } else {
         None
