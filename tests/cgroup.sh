@@ -15,5 +15,6 @@ python3 -B tests/cgroup/two_programs.py "$program" examples/machines/two-socket.
 python3 -B tests/cgroup/left.py "$program" examples/machines/two-socket.json
 python3 -B tests/cgroup/updates.py "$program" examples/machines/two-socket.json
 python3 -B tests/cgroup/each_call.py "$program" "$work/folders.so" examples/machines/two-socket.json tests/cgroup/script
+python3 -B tests/cgroup/each_call.py "$program" "$work/folders.so" examples/machines/two-socket.json tests/cgroup/direct-script
 python3 -B tests/cgroup/sets.py "$program" "$work/folders.so"
 python3 -B tests/cgroup/memory.py "$program" "$work/folders.so" "$work/refuse.so" examples/machines/two-socket.json

@@ -35,7 +35,7 @@ whole s count = s
 
 -- no CPUs, as if of each core one were lacking in the set
 abbrev pub halved : Least
-halved s count = set.empty
+halved s count = set.from_list []
 
 -- the write is one by which the group requests these CPUs
 abbrev pub gives : Option Write → Group → List ℕ → Bool

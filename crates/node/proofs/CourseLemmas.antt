@@ -1,10 +1,9 @@
 -- All steps of a hand-over, from the first to the one that ends it.
 use Rattle.std.proofs.Common.{◌≡◌, ℕ, zero, suc, ◌+◌, ◌<◌, ◌≤◌, refl, sym, ap, ◌∙◌, subst, arith}
-use Rattle.std.specs.Prelude.{cond, Option, Some, None, is_some, Result, Ok, Err}
+use Rattle.std.specs.Prelude.{cond, Option, Some, None, is_some, Result, Ok}
 use Rattle.kernel_model.specs.declared.KernelFault.{KernelFault}
 use Rattle.kernel_model.specs.KernelState.{KernelState}
 use Rattle.machine.specs.Layout.{Layout}
-use Rattle.apply_plan.specs.declared.Progress.{Progress}
 use Rattle.apply_plan.specs.declared.Progress.TheVariants.{More, Done}
 use Rattle.apply_plan.specs.declared.scan.Write.{Write}
 use Rattle.apply_plan.specs.DueWrite.{written, progress_of}
@@ -14,7 +13,7 @@ use Rattle.apply_plan.specs.MayWrite.{left_directly}
 use Rattle.apply_plan.specs.Directed.{Directed, Least}
 use Rattle.apply_plan.specs.DirectWrite.{due_directly, StepsDirectly, LowersDirectly}
 use Rattle.node.specs.declared.order.Order.{Order}
-use Rattle.node.specs.declared.order.Order.TheVariants.{InTurn, Directly}
+use Rattle.node.specs.declared.order.Order.TheVariants.{InTurn}
 use Rattle.node.specs.NodeState.{Ongoing}
 use Rattle.node.specs.Orders.{StepsBy, StepsMoreBy, AllStepsBy}
 

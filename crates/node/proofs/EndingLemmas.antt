@@ -1,7 +1,7 @@
 -- How long a hand-over lasts that is stepped.
-use Rattle.std.proofs.Common.{◌≡◌, inl, inr, ℕ, ◌+◌, ◌*◌, ◌≤◌, true, false, cond, List, [], ◌∷◌, length, Some, None, refl, sym, ap, ◌∙◌, subst, arith}
+use Rattle.std.proofs.Common.{◌≡◌, inl, inr, ℕ, ◌+◌, ◌*◌, ◌≤◌, true, false, List, [], ◌∷◌, length, Some, None, refl, sym, ap, ◌∙◌, subst, arith}
 use Rattle.std.proofs.lemmas.Bool.{false≢true}
-use Rattle.std.specs.Prelude.{Option, is_some, Result, Ok, Err}
+use Rattle.std.specs.Prelude.{Result, Ok, Err}
 use Rattle.std.specs.List.{AllByRecursion}
 use Rattle.faults.specs.declared.OrMemory.{OrMemory}
 use Rattle.faults.specs.declared.OrMemory.TheVariants.{Memory, Fault}
@@ -13,7 +13,6 @@ use Rattle.kernel_model.specs.declared.Call.{Call}
 use Rattle.kernel_model.specs.declared.Call.TheVariants as call
 use Rattle.kernel_model.specs.declared.Reply.{Reply}
 use Rattle.kernel_model.specs.declared.Reply.TheVariants as reply
-use Rattle.kernel_model.specs.KernelState.{KernelState}
 use Rattle.kernel_model.specs.Runs.{reply_of, reply_at_once}
 use Rattle.kernel_model.specs.Runs as kernel
 use Rattle.apply_plan.specs.declared.Progress.{Progress}

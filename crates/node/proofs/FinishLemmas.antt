@@ -9,7 +9,6 @@ use Rattle.kernel_model.specs.Cases.{rise}
 use Rattle.apply_plan.specs.declared.Progress.{Progress}
 use Rattle.apply_plan.specs.declared.Progress.TheVariants.{More, Done}
 use Rattle.apply_plan.specs.DueWrite.{HaveTargets, writes_to_come, Spends}
-use Rattle.apply_plan.specs.Finishes.{last_answer}
 use Rattle.apply_plan.specs.Leaves.{KeepsRest}
 use Rattle.apply_plan.specs.LeavesLemmas.{rest_then}
 use Rattle.node.specs.declared.order.Order.TheVariants.{InTurn}

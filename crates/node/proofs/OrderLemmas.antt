@@ -30,10 +30,10 @@ use Rattle.apply_plan.specs.DueWrite.{held, must_move, due, written, progress_of
 use Rattle.apply_plan.specs.Leaves.{KeepsRest}
 use Rattle.apply_plan.specs.ListLemmas.{none_found}
 use Rattle.apply_plan.specs.OneStep.{StepLeaves, StepsLeave}
-use Rattle.apply_plan.specs.Runs.{IsOpen, Called, LeavesEntries, EndsWithin, FewToCome}
+use Rattle.apply_plan.specs.Runs.{IsOpen, Called, LeavesEntries}
 use Rattle.apply_plan.specs.RunLemmas.{steps_leave, ends_within}
 use Rattle.apply_plan.specs.HandoverLemmas.{at_most_two}
-use Rattle.apply_plan.specs.MayWrite.{OnWay, left_directly, FewLeft}
+use Rattle.apply_plan.specs.MayWrite.{OnWay, left_directly}
 use Rattle.apply_plan.specs.Directed.{Directed, allowed_of, Least, Serves}
 use Rattle.apply_plan.specs.DirectWrite.{due_directly, StepsDirectly}
 use Rattle.apply_plan.specs.DirectStepLemmas.{due_if_moves}
@@ -41,7 +41,6 @@ use Rattle.apply_plan.specs.DirectLemmas.{few_left}
 use Rattle.apply_plan.specs.DirectOneStep.{StepLeavesDirectly, DirectStepsLeave}
 use Rattle.apply_plan.specs.DirectOneStepLemmas.{direct_steps_leave}
 use Rattle.apply_plan.specs.DirectRuns as direct
-use Rattle.apply_plan.specs.DirectRuns.{EndsDirectly}
 use Rattle.apply_plan.specs.DirectRunLemmas.{ends_directly}
 use Rattle.apply_plan.specs.Squeezes.{SqueezesOnlyStuck}
 use Rattle.node.specs.declared.order.Order.{Order}

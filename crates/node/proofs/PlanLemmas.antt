@@ -31,9 +31,8 @@ use Rattle.node.specs.Headline.{HasItsCpus}
 use Rattle.node.specs.IsNode.{IsAsked, IsNode, HaveOtherIds, IsPlaced}
 use Rattle.node.specs.Ongoing.{AreOf, IsSince, IsOnWay, AreSince, IsOngoing}
 use Rattle.node.specs.Orders.{directed_of}
-use Rattle.apply_plan.specs.Directed.{allowed_of, IsDirected}
+use Rattle.apply_plan.specs.Directed.{allowed_of}
 use Rattle.cpu_set.specs.Members.{InRange}
-use Rattle.demand.specs.FitsMachine.{FitsMachine}
 use Rattle.node.proofs.DistanceLemmas.{pairs_by_recursion}
 use Rattle.node.proofs.ListLemmas.{all_map, all_of, pairs_map, all_of_map, of_all_map, pairs_of_map, of_pairs_map}
 use Rattle.node.proofs.LaunchLemmas.{names_apart, is_there}

@@ -124,6 +124,7 @@ abbrev pub is_direct : Order → Bool
 is_direct InTurn = false
 is_direct Directly = true
 
+-- and read back
 abbrev pub to_order : Bool → Order
 to_order false = InTurn
 to_order true = Directly

@@ -1,11 +1,10 @@
 //! A hand-over in the order in which it was begun.
-ghost use Rattle.std.specs.Prelude.{◌≡◌, List, []};
+ghost use Rattle.std.specs.Prelude.{◌≡◌, List};
 ghost use Rattle.cpu_set.specs.Ids.{Ids};
 ghost use Rattle.apply_plan.specs.Targets.{ArePlaced};
-ghost use Rattle.node.specs.LeastCores.{least_cores};
 ghost use Rattle.node.specs.NodeState.{Ongoing};
 ghost use Rattle.node.specs.Orders.{directed_of, StepsBy, AllStepsBy};
-ghost use Rattle.node.specs.Viewed.{seen_by};
+ghost use Rattle.node.specs.Viewed.{targets_seen, order_seen, seen_by};
 ghost use Rattle.node.specs.declared.order.Order.TheVariants.{Directly};
 
 use crate::places::PlaceCores;
@@ -49,9 +48,9 @@ impl Course {
         kernel: &mut K,
         machine: &Machine,
     ) -> Result<Progress, KernelFault>
-        requires { ArePlaced (K.state kernel.old) (seen_by self.old []).targets.entries }
+        requires { ArePlaced (K.state kernel.old) (targets_seen self.old).entries }
         ensures same { self.new ≡ self.old }
-        ensures step { (found : List Ids) → StepsBy (seen_by self.old found).order machine.now (seen_by self.old found)
+        ensures step { (found : List Ids) → StepsBy (order_seen self.old) machine.now (seen_by self.old found)
             (K.state kernel.old) result (K.state kernel.new) }
     {
         match self {
@@ -66,8 +65,8 @@ impl Course {
         kernel: &mut K,
         machine: &Machine,
     ) -> Result<(), KernelFault>
-        requires { ArePlaced (K.state kernel.old) (seen_by self.old []).targets.entries }
-        ensures { (found : List Ids) → AllStepsBy (seen_by self.old found).order machine.now (seen_by self.old found)
+        requires { ArePlaced (K.state kernel.old) (targets_seen self.old).entries }
+        ensures { (found : List Ids) → AllStepsBy (order_seen self.old) machine.now (seen_by self.old found)
             (K.state kernel.old) result (K.state kernel.new) }
     {
         match self {

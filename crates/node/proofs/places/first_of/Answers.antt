@@ -1,4 +1,4 @@
-use Rattle.std.proofs.Common.{Option, subst}
+use Rattle.std.proofs.Common.{subst}
 use Rattle.node.proofs.LeastLemmas.{Walks, walk_begins, walk_goes_on, walk_has_enough, walk_is_over}
 use Rattle.node.proofs.places.first_of.Goals as goal
 

@@ -1,6 +1,4 @@
-use Rattle.std.proofs.Common.{ℕ, ◌-◌, Option, Some, None}
-use Rattle.cpu_set.specs.declared.TheConstants.{CPU_LIMIT}
-use Rattle.node.proofs.LeastLemmas.{Walks, bound}
+use Rattle.node.proofs.LeastLemmas.{Walks}
 use Rattle.node.proofs.places.first_of.Given as goal
 
 -- the members below the next one are taken
