@@ -25,6 +25,7 @@ fn first_of(set: &IdSet, count: u32) -> IdSet
 }
 
 /// The cores of a machine, by which places are given out.
+#[derive(Clone, Copy)]
 pub struct PlaceCores<'a> {
     pub machine: &'a Machine,
 }
