@@ -1,10 +1,10 @@
 -- Rows filled one after another: each holds as many CPUs as it asks for, or some together may have too few.
-use Rattle.std.proofs.Common.{◌≡◌, ℕ, zero, suc, ◌+◌, ◌<◌, ◌≤◌, Bool, true, refl, sym, ap, ◌∙◌, inl, inr, ◌⊎◌, arith}
+use Rattle.std.proofs.Common.{◌≡◌, ℕ, zero, suc, ◌+◌, ◌<◌, ◌≤◌, Bool, sym, ap, ◌∙◌, inl, inr, ◌⊎◌, arith}
 use Rattle.std.specs.Prelude.{◌==◌}
 use Rattle.std.proofs.lemmas.Bool.{cases_eq, cases_lt, ne_eqb}
-use Rattle.hall.proofs.Counting.{count, count_nothing}
+use Rattle.hall.proofs.Counting.{count_nothing}
 use Rattle.hall.proofs.Moving.{held}
-use Rattle.hall.proofs.Searching.{IsAllowed, IsStopped, IsFilled, IsLacking, FilledOrLacking, fill}
+use Rattle.hall.proofs.Searching.{IsAllowed, IsStopped, IsFilled, IsLacking, fill}
 
 -- each row asks for so many CPUs
 module _ (cpus rows : ℕ) (may : ℕ → ℕ → Bool) (demands : ℕ → ℕ) where

@@ -1,9 +1,9 @@
 -- Who can't be left out: a row that holds as many CPUs as are lacking, of those that such rows may have.
-use Rattle.std.proofs.Common.{◌≡◌, ℕ, ◌+◌, ◌<◌, ◌≤◌, Bool, true, false, cond, ◌&&◌, not, nat_lt, refl, sym, ap, ◌∙◌, subst, inl, inr, ◌⊎◌, arith}
+use Rattle.std.proofs.Common.{◌≡◌, ℕ, ◌+◌, ◌<◌, ◌≤◌, Bool, true, false, cond, ◌&&◌, not, nat_lt, refl, sym, ap, subst, inl, inr, arith}
 use Rattle.std.specs.Prelude.{◌==◌}
-use Rattle.std.proofs.lemmas.Bool.{cases_eq, cases_Bool, eq-eqb, eqb-true, ne_eqb, both_ways, and_parts, and_from, not-true, false_from_ne_true}
+use Rattle.std.proofs.lemmas.Bool.{cases_Bool, eq-eqb, eqb-true, ne_eqb, both_ways, and_parts, and_from, not-true, false_from_ne_true}
 use Rattle.hall.proofs.Counting.{count, count_apart}
-use Rattle.hall.proofs.Sums.{total, total_change}
+use Rattle.hall.proofs.Sums.{total_change}
 use Rattle.hall.proofs.Moving.{held}
 use Rattle.hall.proofs.Searching.{IsAllowed}
 use Rattle.hall.proofs.Serving.{of_marked, is_mine, is_open, open_by, opener, mine_counted, mine_open, AreShort, Served, served_not_short, served_or_short}

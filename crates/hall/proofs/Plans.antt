@@ -166,11 +166,7 @@ module _ (rows : List RowView) (nobody : ℕ) (past : length rows ≤ nobody) wh
           let less : j < get_or ks found.0 i = AllPairs-from_increasing (j ∷ ks) rising 0 (suc found.0) i (omega arith) (omega (arith, found.1)) in
           omega (arith, less, found.2)
 
-      own : ℕ → ℕ
-      own c = cond (set.contains s c) j (holder nobody ks sets c)
-
-      at_head : (c : ℕ) → c < CPU_LIMIT → (own c == j) ≡ set.contains s c
-      unfolding own
+      at_head : (c : ℕ) → c < CPU_LIMIT → (cond (set.contains s c) j (holder nobody ks sets c) == j) ≡ set.contains s c
       at_head c lt = by_test (set.contains s c) refl
         where
           by_test : (b : Bool) → set.contains s c ≡ b → (cond (set.contains s c) j (holder nobody ks sets c) == j) ≡ set.contains s c
@@ -183,8 +179,7 @@ module _ (rows : List RowView) (nobody : ℕ) (past : length rows ≤ nobody) wh
               ])
               ∙ sym off
 
-      at_tail : (i : ℕ) → (i ≡ j → ⊥) → i < length rows → (c : ℕ) → c < CPU_LIMIT → (own c == i) ≡ (holder nobody ks sets c == i)
-      unfolding own
+      at_tail : (i : ℕ) → (i ≡ j → ⊥) → i < length rows → (c : ℕ) → c < CPU_LIMIT → (cond (set.contains s c) j (holder nobody ks sets c) == i) ≡ (holder nobody ks sets c == i)
       at_tail i ne lt c c_lt = by_test (set.contains s c) refl
         where
           by_test : (b : Bool) → set.contains s c ≡ b → (cond (set.contains s c) j (holder nobody ks sets c) == i) ≡ (holder nobody ks sets c == i)
@@ -201,11 +196,11 @@ module _ (rows : List RowView) (nobody : ℕ) (past : length rows ≤ nobody) wh
 
       by_row : (k ≡ j) ⊎ (k ≡ j → ⊥) → held CPU_LIMIT (λ c. cond (set.contains s c) j (holder nobody ks sets c)) k ≡ demand_at rows k
       by_row (inl e) =
-          ap (held CPU_LIMIT own) e ∙ count_same (λ c. own c == j) (set.contains s) CPU_LIMIT at_head
+          ap (held CPU_LIMIT (λ c. cond (set.contains s c) j (holder nobody ks sets c))) e ∙ count_same (λ c. cond (set.contains s c) j (holder nobody ks sets c) == j) (set.contains s) CPU_LIMIT at_head
           ∙ ap set.len (those-contains s CPU_LIMIT both.0.in_range) ∙ both.0.size ∙ sym (ap demand_of is) ∙ ap (demand_at rows) (sym e)
       by_row (inr ne) =
           let found = in_tail ne here in
-          count_same (λ c. own c == k) (λ c. holder nobody ks sets c == k) CPU_LIMIT (at_tail k ne (All-contains (λ i. i < length rows) ks k there_tail found))
+          count_same (λ c. cond (set.contains s c) j (holder nobody ks sets c) == k) (λ c. holder nobody ks sets c == k) CPU_LIMIT (at_tail k ne (All-contains (λ i. i < length rows) ks k there_tail found))
           ∙ held_by ks sets there_tail rising_tail both.1 (AllPairs-tail s sets apart) k found
 
 -- the rows of a list that has a plan are served

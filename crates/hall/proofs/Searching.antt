@@ -1,8 +1,8 @@
 -- A row that lacks CPUs gets one more, or the rows that it reaches hold all that they may have.
 use Rattle.std.proofs.Common.{◌≡◌, ℕ, zero, suc, ◌+◌, ◌<◌, ◌≤◌, Bool, true, false, cond, ◌||◌, ◌&&◌, not, nat_lt, refl, sym, ap, ◌∙◌, subst, inl, inr, ◌⊎◌, arith}
 use Rattle.std.specs.Prelude.{◌==◌}
-use Rattle.std.proofs.lemmas.Bool.{cases_eq, cases_lt, cases_Bool, eq-eqb, eqb-true, ne_eqb, both_ways, and_parts, and_cases, or_cases, or_left, or_right, not-true, not-false, lt-ltb, ltb-true}
-use Rattle.hall.proofs.Counting.{count, count_change, count_some, pair_or_none}
+use Rattle.std.proofs.lemmas.Bool.{cases_eq, cases_lt, eq-eqb, eqb-true, ne_eqb, both_ways, and_parts, and_cases, or_cases, or_left, or_right, not-true, not-false, lt-ltb, ltb-true}
+use Rattle.hall.proofs.Counting.{count, count_change, pair_or_none}
 use Rattle.hall.proofs.Moving.{held, move, move_here, move_other, held_moved, is_own, is_not_own}
 
 -- so many CPUs and rows, and which row may have which CPU. `own c` is the row that holds CPU c, or no row.
@@ -161,7 +161,7 @@ module _ (cpus rows : ℕ) (may : ℕ → ℕ → Bool) where
           on = first.0;
           can = second.0;
           off = λ lt. elim (and_cases _ _ (not-true _ second.1)) [
-            | inl no ↦ absurd (both_ways _ no (lt-ltb (own c) rows lt))
+            | inl past ↦ absurd (both_ways _ past (lt-ltb (own c) rows lt))
             | inr off ↦ off
           ];
         }
@@ -172,7 +172,7 @@ module _ (cpus rows : ℕ) (may : ℕ → ℕ → Bool) where
         let both : (nat_lt (own c) rows && marks (own c)) ≡ true = elim (and_cases (marks k) _ h) [
           | inl off ↦ absurd (both_ways _ off on)
           | inr rest ↦ elim (and_cases (may k c) _ rest) [
-            | inl no ↦ absurd (both_ways _ no can)
+            | inl never ↦ absurd (both_ways _ never can)
             | inr shut ↦ not-false _ shut
           ]
         ] in
@@ -207,6 +207,13 @@ module _ (cpus rows : ℕ) (may : ℕ → ℕ → Bool) where
     abbrev Again : ℕ → (ℕ → ℕ) → Type 0
     Again n own = (marks : ℕ → Bool) → IsReach r own marks → marks r ≡ true → count (λ k. not (marks k)) rows + 1 ≤ n → Found own
 
+    kept :
+        (own : ℕ → ℕ) (marks : ℕ → Bool) (reach : IsReach r own marks) (k c : ℕ) (on : marks k ≡ true) (lt : c < cpus) (can : may k c ≡ true)
+        (holds : own c < rows) (off : marks (own c) ≡ false)
+        → marks r ≡ true → marks_more own marks reach k c on lt can holds off r ≡ true
+    unfolding marks_more
+    kept own marks reach k c on lt can holds off root = or_left (marks r) (r == own c) root
+
     at_open :
         (n : ℕ) (own : ℕ → ℕ) (marks : ℕ → Bool) → IsAllowed own → IsReach r own marks → marks r ≡ true → count (λ k. not (marks k)) rows ≤ n
         → Again n own → (k c : ℕ) → c < cpus → IsOpen own marks k c → Found own
@@ -218,13 +225,6 @@ module _ (cpus rows : ℕ) (may : ℕ → ℕ → Bool) where
           again (marks_more own marks reach k c at.on lt at.can holds off) (reach_more own marks reach k c at.on lt at.can holds off)
           (kept own marks reach k c at.on lt at.can holds off root) (omega (arith, less, few))
     ]
-      where
-        kept :
-            (own : ℕ → ℕ) (marks : ℕ → Bool) (reach : IsReach r own marks) (k c : ℕ) (on : marks k ≡ true) (lt : c < cpus) (can : may k c ≡ true)
-            (holds : own c < rows) (off : marks (own c) ≡ false)
-            → marks r ≡ true → marks_more own marks reach k c on lt can holds off r ≡ true
-        unfolding marks_more
-        kept own marks reach k c on lt can holds off root = or_left (marks r) (r == own c) root
 
     step :
         (n : ℕ) (own : ℕ → ℕ) (marks : ℕ → Bool) → IsAllowed own → IsReach r own marks → marks r ≡ true → count (λ k. not (marks k)) rows ≤ n

@@ -1,12 +1,12 @@
 -- Rows that can be served together, or some of them that ask for more CPUs than they may have.
 use Rattle.std.proofs.Common.{◌≡◌, ℕ, zero, suc, ◌+◌, ◌<◌, ◌≤◌, Bool, true, false, cond, ◌&&◌, nat_lt, refl, sym, ap, ◌∙◌, inl, inr, ◌⊎◌, arith}
 use Rattle.std.specs.Prelude.{◌==◌}
-use Rattle.std.proofs.lemmas.Bool.{cases_eq, cases_lt, cases_Bool, eq-eqb, ne_eqb, both_ways, and_parts, and_from, and_left, lt-ltb, ltb-true, le-ltb}
+use Rattle.std.proofs.lemmas.Bool.{cases_lt, eq-eqb, ne_eqb, and_parts, and_from, and_left, lt-ltb, ltb-true, le-ltb}
 use Rattle.cpu_set.specs.SetLaws.{len-those_none}
 use Rattle.hall.proofs.Counting.{count, count_suc, count_le, count_some, count_nothing, one_or_none}
-use Rattle.hall.proofs.Sums.{total, total_same, total_le, total_lt, total_zero, total_add, total_change}
+use Rattle.hall.proofs.Sums.{total, total_same, total_lt, total_zero, total_add, total_change}
 use Rattle.hall.proofs.Moving.{held}
-use Rattle.hall.proofs.Searching.{IsAllowed, IsStopped}
+use Rattle.hall.proofs.Searching.{IsAllowed}
 use Rattle.hall.proofs.Filling.{AreFilled, AreStopped, all_or_stopped}
 
 -- what the marked rows have of some numbers, one for each row

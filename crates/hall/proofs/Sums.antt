@@ -1,5 +1,5 @@
 -- Sums over the first rows.
-use Rattle.std.proofs.Common.{◌≡◌, ℕ, zero, suc, ◌+◌, ◌<◌, ◌≤◌, refl, ap, arith}
+use Rattle.std.proofs.Common.{◌≡◌, ℕ, zero, suc, ◌+◌, ◌<◌, ◌≤◌, refl, arith}
 
 -- f 0 + f 1 + .., n terms
 abbrev pub total : (ℕ → ℕ) → ℕ → ℕ

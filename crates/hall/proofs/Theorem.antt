@@ -32,7 +32,7 @@ all_chosen rows (row ∷ more) a same =
     let rest = all_chosen rows more (a + 1) (λ i. let e : a + 1 + i ≡ a + suc i = omega arith in ap (slice_get rows) e ∙ same (suc i)) in
     ap (λ found. cons_option found (chosen rows (range_with_len (a + 1) (length more)))) first ∙ ap (λ rs. row ∷ rs) rest
 
-everyone : ℕ → Bool
+abbrev everyone : ℕ → Bool
 everyone k = true
 
 pub halls_theorem : HallsTheorem
@@ -45,7 +45,6 @@ halls_theorem rows = elim (served_or_short CPU_LIMIT (length rows) (may_have row
     plus i = omega arith
 
     plan : Served CPU_LIMIT (length rows) (may_have rows) (demand_at rows) everyone → HasPlan rows
-    unfolding everyone
     plan served =
         let ks : List ℕ = range_with_len 0 (length rows) in
         let below : All (λ k. k < length rows) (range_with_len 0 (length rows)) = λ k d lt.
