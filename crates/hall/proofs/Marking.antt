@@ -15,7 +15,7 @@ without who k j = who j && not (j == k)
 without_it : (who : ℕ → Bool) (k : ℕ) → without who k k ≡ true → ⊥
 without_it who k on = both_ways (k == k) (not-true (k == k) (and_parts (who k) (not (k == k)) on).1) (eq-eqb k k refl)
 
-in_without : (who : ℕ → Bool) (k j : ℕ) → who j ≡ true → (j ≡ k → ⊥) → without who k j ≡ true
+pub in_without : (who : ℕ → Bool) (k j : ℕ) → who j ≡ true → (j ≡ k → ⊥) → without who k j ≡ true
 in_without who k j on ne = and_from (who j) (not (j == k)) on (ap not (ne_eqb j k ne))
 
 module _ (cpus rows : ℕ) (may : ℕ → ℕ → Bool) (demands : ℕ → ℕ) (who : ℕ → Bool) where

@@ -1,24 +1,20 @@
 -- Who can't be left out, by the members' numbers.
-use Rattle.std.proofs.Common.{◌≡◌, ℕ, zero, suc, ◌+◌, ◌<◌, ◌≤◌, Bool, true, false, cond, ◌||◌, ◌&&◌, not, List, [], ◌∷◌, length, get_or, filter, map, refl, sym, ap, ◌∙◌, subst, inl, inr, ◌⊎◌, arith}
+use Rattle.std.proofs.Common.{◌≡◌, ℕ, zero, suc, ◌<◌, ◌≤◌, Bool, true, false, cond, ◌||◌, ◌&&◌, not, List, [], ◌∷◌, length, get_or, filter, map, refl, sym, ap, ◌∙◌, subst, arith}
 use Rattle.std.specs.Prelude.{◌==◌, All, Contains}
 use Rattle.std.specs.List.{list_any}
 use Rattle.std.specs.List.Sorted.{IsStrictlyIncreasing}
 use Rattle.std.specs.FinSet as set
-use Rattle.std.proofs.lemmas.Bool.{cases_Bool, eq-eqb, eqb-true, eqb-false, ne_eqb, both_ways, and_parts, and_from, not-true, false≢true, or_left, or_right}
+use Rattle.std.proofs.lemmas.Bool.{eq-eqb, eqb-true, both_ways, and_parts, and_from, false≢true, or_left, or_right}
 use Rattle.std.proofs.lemmas.List.Elements.{All-contains, All-cons, All-nil}
 use Rattle.std.proofs.lemmas.List.Kept.{IsStrictlyIncreasing-filter}
-use Rattle.cpu_set.specs.Ids.{Ids}
 use Rattle.cpu_set.specs.SetLaws.{those-contains}
 use Rattle.cpu_set.specs.declared.TheConstants.{CPU_LIMIT}
 use Rattle.certificate.specs.RowView.{RowView}
-use Rattle.certificate.specs.IsPlan.{IsPlan}
-use Rattle.certificate.specs.IsShortage.{chosen}
 use Rattle.hall.specs.Asking.{demand_at, may_have}
-use Rattle.hall.specs.HallsTheorem.{HasPlan}
 use Rattle.hall.specs.Needed.{others, IsNeeded, IsPartPlan, AreKnown, HoldsOfKnown, HoldersAreNeeded, FewerHavePlans}
 use Rattle.hall.proofs.Counting.{count, count_le}
-use Rattle.hall.proofs.Serving.{is_open, open_by, IsServed, Served}
-use Rattle.hall.proofs.Marking.{without, in_without, IsAllButSome, marked_is_needed}
+use Rattle.hall.proofs.Serving.{is_open, open_by}
+use Rattle.hall.proofs.Marking.{without, marked_is_needed}
 use Rattle.hall.proofs.Marking as marking
 use Rattle.hall.proofs.Plans.{AreServed, set_of, plan_of_served, served_of_plan}
 
@@ -28,11 +24,11 @@ is_among ks k = list_any (λ j. j == k) ks
 
 among_contains : (ks : List ℕ) (k : ℕ) → is_among ks k ≡ true → Contains ks k
 among_contains [] k on = absurd (false≢true on)
-among_contains (j ∷ ks) k on = by_test (j == k) refl on
+among_contains (j ∷ ks) k on = by_test (j == k) refl on (among_contains ks k)
   where
-    by_test : (b : Bool) → (j == k) ≡ b → (b || is_among ks k) ≡ true → Contains (j ∷ ks) k
-    by_test true e h = (0, omega arith, eqb-true j k e)
-    by_test false e h = (let found = among_contains ks k h in (suc found.0, omega (arith, found.1), found.2))
+    by_test : (b : Bool) → (j == k) ≡ b → (b || is_among ks k) ≡ true → (is_among ks k ≡ true → Contains ks k) → Contains (j ∷ ks) k
+    by_test true e h rest = (0, omega arith, eqb-true j k e)
+    by_test false e h rest = (let found = rest h in (suc found.0, omega (arith, found.1), found.2))
 
 contains_among : (ks : List ℕ) (k : ℕ) → Contains ks k → is_among ks k ≡ true
 contains_among [] k found = absurd (omega (arith, found.1))
@@ -58,16 +54,18 @@ kept_all test P (k ∷ ks) all = by_test (test k) refl (kept_all test P ks (λ i
 
 contains_kept : (test : ℕ → Bool) (ks : List ℕ) (k : ℕ) → Contains ks k → test k ≡ true → Contains (filter test ks) k
 contains_kept test [] k found on = absurd (omega (arith, found.1))
-contains_kept test (j ∷ ks) k found on = by_test (test j) refl
+contains_kept test (j ∷ ks) k found on = by_test (test j) refl (λ later. contains_kept test ks k later on)
   where
-    at : (b : Bool) → test j ≡ b → Contains (j ∷ ks) k → Contains (cond b (j ∷ filter test ks) (filter test ks)) k
-    at true e (zero, lt, is) = (0, omega arith, is)
-    at true e (suc i, lt, is) = (let found = contains_kept test ks k (i, omega (arith, lt), is) on in (suc found.0, omega (arith, found.1), found.2))
-    at false e (zero, lt, is) = absurd (both_ways (test j) e (ap test is ∙ on))
-    at false e (suc i, lt, is) = contains_kept test ks k (i, omega (arith, lt), is) on
+    at :
+        (b : Bool) → test j ≡ b → (Contains ks k → Contains (filter test ks) k) → Contains (j ∷ ks) k
+        → Contains (cond b (j ∷ filter test ks) (filter test ks)) k
+    at true e rest (zero, lt, is) = (0, omega arith, is)
+    at true e rest (suc i, lt, is) = (let more = rest (i, omega (arith, lt), is) in (suc more.0, omega (arith, more.1), more.2))
+    at false e rest (zero, lt, is) = absurd (both_ways (test j) e (ap test is ∙ on))
+    at false e rest (suc i, lt, is) = rest (i, omega (arith, lt), is)
 
-    by_test : (b : Bool) → test j ≡ b → Contains (filter test (j ∷ ks)) k
-    by_test b e = subst (λ t. Contains (cond t (j ∷ filter test ks) (filter test ks)) k) (sym e) (at b e found)
+    by_test : (b : Bool) → test j ≡ b → (Contains ks k → Contains (filter test ks) k) → Contains (filter test (j ∷ ks)) k
+    by_test b e rest = subst (λ t. Contains (cond t (j ∷ filter test ks) (filter test ks)) k) (sym e) (at b e rest found)
 
 module _ (rows : List RowView) (members : List ℕ) (rising : IsStrictlyIncreasing members) (there : All (λ k. k < length rows) members) where
   others_rise : (m : ℕ) → IsStrictlyIncreasing (others members m)
@@ -107,7 +105,7 @@ module _ (rows : List RowView) (members : List ℕ) (rising : IsStrictlyIncreasi
 
     known_are : marking.AreKnown CPU_LIMIT (length rows) (may_have rows) (demand_at rows) (is_among members) root known
     known_are = record {
-      root_known = k_are.root;
+      root_known = k_are.root_known;
       within = λ k on. contains_among members k (k_are.there k on);
       served = λ k lt on. served_but k (k_are.needed k on);
     }

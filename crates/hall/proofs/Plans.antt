@@ -1,16 +1,15 @@
 -- Plans of some of the rows, and who holds which CPU.
-use Rattle.std.proofs.Common.{◌≡◌, ℕ, zero, suc, ◌+◌, ◌<◌, ◌≤◌, Bool, true, false, cond, ◌&&◌, nat_lt, Option, Some, None, List, [], ◌∷◌, length, get_or, map, slice_get, is_some, refl, sym, ap, ◌∙◌, subst, inl, inr, ◌⊎◌, arith, IsSome}
+use Rattle.std.proofs.Common.{◌≡◌, ℕ, zero, suc, ◌+◌, ◌<◌, ◌≤◌, Bool, true, false, cond, nat_lt, Option, Some, None, List, [], ◌∷◌, length, get_or, map, slice_get, is_some, refl, sym, ap, ◌∙◌, subst, inl, inr, ◌⊎◌, arith, IsSome}
 use Rattle.std.specs.Prelude.{◌==◌, All, Contains, option_and_then}
 use Rattle.std.specs.List.{AllZip, AllPairs}
 use Rattle.std.specs.List.Sorted.{IsStrictlyIncreasing}
 use Rattle.std.specs.FinSet as set
-use Rattle.std.proofs.lemmas.Bool.{cases_eq, cases_Bool, eq-eqb, eqb-true, ne_eqb, both_ways, and_parts, and_from, ltb-true, false_from_ne_true}
+use Rattle.std.proofs.lemmas.Bool.{cases_eq, eq-eqb, eqb-true, ne_eqb, both_ways, and_parts, ltb-true, false_from_ne_true}
 use Rattle.std.proofs.lemmas.List.{get_or-map, length-map}
-use Rattle.std.proofs.lemmas.List.Elements.{All-contains, Contains-get_or}
+use Rattle.std.proofs.lemmas.List.Elements.{All-contains}
 use Rattle.std.proofs.lemmas.List.Kept.{AllPairs-from_increasing}
 use Rattle.std.proofs.lemmas.Option.{slice_get-get_or}
 use Rattle.cpu_set.specs.Ids.{Ids, IsDisjoint}
-use Rattle.cpu_set.specs.Members.{InRange}
 use Rattle.cpu_set.specs.Those.{those}
 use Rattle.cpu_set.specs.ThoseLemmas.{contains-those}
 use Rattle.cpu_set.specs.SetLaws.{those-contains}
@@ -21,9 +20,8 @@ use Rattle.certificate.specs.IsPlan.{Meets, IsPlan}
 use Rattle.certificate.specs.IsShortage.{chosen}
 use Rattle.certificate.specs.ApartLemmas.{AllPairs-tail, AllPairs-head}
 use Rattle.hall.specs.Asking.{demand_of, demand_at, may_have}
-use Rattle.hall.proofs.Counting.{count, count_same}
+use Rattle.hall.proofs.Counting.{count_same}
 use Rattle.hall.proofs.Moving.{held}
-use Rattle.hall.proofs.Searching.{IsAllowed}
 use Rattle.hall.proofs.Serving.{IsServed, Served}
 
 no_row : RowView
@@ -98,11 +96,11 @@ holder_in : (nobody : ℕ) (ks : List ℕ) (sets : List Ids) (c k : ℕ) → hol
 unfolding holder
 holder_in nobody [] sets c k e = inl (sym e)
 holder_in nobody (j ∷ ks) [] c k e = inl (sym e)
-holder_in nobody (j ∷ ks) (s ∷ sets) c k e = by_test (set.contains s c) refl
+holder_in nobody (j ∷ ks) (s ∷ sets) c k e = by_test (set.contains s c) refl (holder_in nobody ks sets c k)
   where
-    by_test : (b : Bool) → set.contains s c ≡ b → (k ≡ nobody) ⊎ Contains (j ∷ ks) k
-    by_test true on = inr (0, omega arith, sym (ap (λ t. cond t j (holder nobody ks sets c)) on) ∙ e)
-    by_test false off = elim (holder_in nobody ks sets c k (sym (ap (λ t. cond t j (holder nobody ks sets c)) off) ∙ e)) [
+    by_test : (b : Bool) → set.contains s c ≡ b → (holder nobody ks sets c ≡ k → (k ≡ nobody) ⊎ Contains ks k) → (k ≡ nobody) ⊎ Contains (j ∷ ks) k
+    by_test true on rest = inr (0, omega arith, sym (ap (λ t. cond t j (holder nobody ks sets c)) on) ∙ e)
+    by_test false off rest = elim (rest (sym (ap (λ t. cond t j (holder nobody ks sets c)) off) ∙ e)) [
       | inl none ↦ inl none
       | inr found ↦ inr (suc found.0, omega (arith, found.1), found.2)
     ]
@@ -115,6 +113,12 @@ holder_none nobody (k ∷ ks) [] c none = refl
 holder_none nobody (k ∷ ks) (s ∷ sets) c none =
     ap (λ t. cond t k (holder nobody ks sets c)) (none 0 s (omega arith)) ∙ holder_none nobody ks sets c (λ i d lt. none (suc i) d (omega (arith, lt)))
 
+rising_tail : (k : ℕ) (ks : List ℕ) → IsStrictlyIncreasing (k ∷ ks) → IsStrictlyIncreasing ks
+rising_tail k ks rising i lt =
+    let h = rising (suc i) (omega (arith, lt)) in
+    let next : suc i + 1 ≡ suc (i + 1) = omega arith in
+    subst (λ n. get_or (k ∷ ks) (suc i) 0 < get_or (k ∷ ks) n 0) next h
+
 -- a row of a list, with its set in the other list
 module _ (rows : List RowView) (nobody : ℕ) (past : length rows ≤ nobody) where
   allowed_by :
@@ -123,7 +127,8 @@ module _ (rows : List RowView) (nobody : ℕ) (past : length rows ≤ nobody) wh
   unfolding holder
   allowed_by [] sets there met c lt = absurd (omega (arith, past, lt))
   allowed_by (k ∷ ks) [] there met c lt = absurd (omega (arith, past, lt))
-  allowed_by (k ∷ ks) (s ∷ sets) there met c lt = by_test (set.contains s c) refl
+  allowed_by (k ∷ ks) (s ∷ sets) there met c lt =
+      by_test (set.contains s c) refl (λ met_tail. allowed_by ks sets (λ i d h. there (suc i) d (omega arith)) met_tail c)
     where
       is : slice_get rows k ≡ Some (get_or rows k no_row)
       is = slice_get-get_or rows k no_row (there 0 k (omega arith))
@@ -131,14 +136,17 @@ module _ (rows : List RowView) (nobody : ℕ) (past : length rows ≤ nobody) wh
       both : Meets (get_or rows k no_row) s × AllZip Meets (chosen rows ks) sets
       both = rw is at met
 
-      by_test : (b : Bool) → set.contains s c ≡ b → may_have rows (cond (set.contains s c) k (holder nobody ks sets c)) c ≡ true
-      by_test true on =
+      by_test :
+          (b : Bool) → set.contains s c ≡ b
+          → (AllZip Meets (chosen rows ks) sets → holder nobody ks sets c < length rows → may_have rows (holder nobody ks sets c) c ≡ true)
+          → may_have rows (cond (set.contains s c) k (holder nobody ks sets c)) c ≡ true
+      by_test true on rest =
           ap (λ t. may_have rows (cond t k (holder nobody ks sets c)) c) on
           ∙ ap (λ found. is_some (option_and_then (λ (r : RowView). weight r c) found)) is
           ∙ weight_some (weight (get_or rows k no_row) c) (both.0.allowed c on)
-      by_test false off =
+      by_test false off rest =
           let same : cond (set.contains s c) k (holder nobody ks sets c) ≡ holder nobody ks sets c = ap (λ t. cond t k (holder nobody ks sets c)) off in
-          ap (λ j. may_have rows j c) same ∙ allowed_by ks sets (λ i d h. there (suc i) d (omega arith)) both.1 c (omega (arith, same, lt))
+          ap (λ j. may_have rows j c) same ∙ rest both.1 (omega (arith, same, lt))
 
   -- each row of the list holds its set
   held_by :
@@ -147,7 +155,9 @@ module _ (rows : List RowView) (nobody : ℕ) (past : length rows ≤ nobody) wh
   unfolding holder
   held_by [] sets there rising met apart k here = absurd (omega (arith, here.1))
   held_by (j ∷ ks) [] there rising met apart k here = absurd ((rw (slice_get-get_or rows j no_row (there 0 j (omega arith))) at met))
-  held_by (j ∷ ks) (s ∷ sets) there rising met apart k here = by_row (cases_eq k j)
+  held_by (j ∷ ks) (s ∷ sets) there rising met apart k here =
+      by_row (cases_eq k j)
+      (λ met_tail found. held_by ks sets (λ i d h. there (suc i) d (omega arith)) (rising_tail j ks rising) met_tail (AllPairs-tail s sets apart) k found)
     where
       is : slice_get rows j ≡ Some (get_or rows j no_row)
       is = slice_get-get_or rows j no_row (there 0 j (omega arith))
@@ -157,9 +167,6 @@ module _ (rows : List RowView) (nobody : ℕ) (past : length rows ≤ nobody) wh
 
       there_tail : All (λ i. i < length rows) ks
       there_tail i d h = there (suc i) d (omega arith)
-
-      rising_tail : IsStrictlyIncreasing ks
-      rising_tail i lt = rising (suc i) (omega (arith, lt))
 
       later : (i : ℕ) → Contains ks i → j < i
       later i found =
@@ -194,14 +201,16 @@ module _ (rows : List RowView) (nobody : ℕ) (past : length rows ≤ nobody) wh
       in_tail ne (zero, lt, e) = absurd (ne (sym e))
       in_tail ne (suc i, lt, e) = (i, omega (arith, lt), e)
 
-      by_row : (k ≡ j) ⊎ (k ≡ j → ⊥) → held CPU_LIMIT (λ c. cond (set.contains s c) j (holder nobody ks sets c)) k ≡ demand_at rows k
-      by_row (inl e) =
+      by_row :
+          (k ≡ j) ⊎ (k ≡ j → ⊥) → (AllZip Meets (chosen rows ks) sets → Contains ks k → held CPU_LIMIT (holder nobody ks sets) k ≡ demand_at rows k)
+          → held CPU_LIMIT (λ c. cond (set.contains s c) j (holder nobody ks sets c)) k ≡ demand_at rows k
+      by_row (inl e) rest =
           ap (held CPU_LIMIT (λ c. cond (set.contains s c) j (holder nobody ks sets c))) e ∙ count_same (λ c. cond (set.contains s c) j (holder nobody ks sets c) == j) (set.contains s) CPU_LIMIT at_head
           ∙ ap set.len (those-contains s CPU_LIMIT both.0.in_range) ∙ both.0.size ∙ sym (ap demand_of is) ∙ ap (demand_at rows) (sym e)
-      by_row (inr ne) =
+      by_row (inr ne) rest =
           let found = in_tail ne here in
           count_same (λ c. cond (set.contains s c) j (holder nobody ks sets c) == k) (λ c. holder nobody ks sets c == k) CPU_LIMIT (at_tail k ne (All-contains (λ i. i < length rows) ks k there_tail found))
-          ∙ held_by ks sets there_tail rising_tail both.1 (AllPairs-tail s sets apart) k found
+          ∙ rest both.1 found
 
 -- the rows of a list that has a plan are served
 pub served_of_plan :

@@ -1,16 +1,14 @@
 -- Marked rows that ask for more CPUs than they may have are a shortage.
-use Rattle.std.proofs.Common.{◌≡◌, ℕ, zero, suc, ◌+◌, ◌<◌, ◌≤◌, Bool, true, false, cond, ◌||◌, ◌&&◌, Option, Some, None, List, [], ◌∷◌, length, get_or, filter, slice_get, is_some, sum_by, refl, sym, ap, ◌∙◌, inl, inr, ◌⊎◌, arith}
+use Rattle.std.proofs.Common.{◌≡◌, ℕ, zero, suc, ◌+◌, ◌<◌, ◌≤◌, Bool, true, false, cond, ◌||◌, Option, Some, None, List, [], ◌∷◌, length, get_or, filter, slice_get, is_some, sum_by, refl, sym, ap, ◌∙◌, arith}
 use Rattle.std.specs.Prelude.{All, option_and_then}
 use Rattle.std.specs.List.{range_with_len, cons_option}
 use Rattle.std.specs.List.Sorted.{IsStrictlyIncreasing}
 use Rattle.std.specs.FinSet as set
-use Rattle.std.proofs.lemmas.Bool.{cases_Bool, false≢true}
+use Rattle.std.proofs.lemmas.Bool.{false≢true}
 use Rattle.std.proofs.lemmas.List.FromFn.{length-range_with_len, get_or-range_with_len}
 use Rattle.std.proofs.lemmas.List.Elements.{All-cons, All-nil}
 use Rattle.std.proofs.lemmas.List.Kept.{IsStrictlyIncreasing-filter}
 use Rattle.std.proofs.lemmas.List.Sums.{sum_by-cons, length-filter}
-use Rattle.std.proofs.lemmas.Option.{slice_get-get_or}
-use Rattle.cpu_set.specs.Ids.{Ids}
 use Rattle.cpu_set.specs.Members.{IsCpu, InRange, cpus, members}
 use Rattle.cpu_set.specs.Those.{those}
 use Rattle.cpu_set.specs.ThoseLemmas.{contains-those}
@@ -73,7 +71,7 @@ module _ (rows : List RowView) (marks : ℕ → Bool) where
   asked_one :
       (k : ℕ) (ks : List ℕ) (found : Option RowView) → slice_get rows k ≡ found
       → asked (cons_option found (chosen rows ks)) ≡ demand_at rows k + asked (chosen rows ks)
-  asked_one k ks None none = ap (λ o. demand_of o + asked (chosen rows ks)) (sym none)
+  asked_one k ks None none = omega (arith, ap demand_of none)
   asked_one k ks (Some row) is = omega (arith, sum_by-cons (λ (r : RowView). r.demand) row (chosen rows ks), ap demand_of is)
 
   -- what the marked rows ask for
@@ -104,25 +102,27 @@ module _ (rows : List RowView) (marks : ℕ → Bool) where
       (ks : List ℕ) (c : ℕ) → All (λ k. (marks k ≡ true) × (k < length rows)) ks → is_offered (chosen rows ks) c ≡ true
       → is_open CPU_LIMIT (length rows) (may_have rows) marks c ≡ true
   offered_open [] c all on = absurd (false≢true on)
-  offered_open (k ∷ ks) c all on = by_row (slice_get rows k) refl on
+  offered_open (k ∷ ks) c all on = by_row (slice_get rows k) refl on (offered_open ks c (λ i d lt. all (suc i) d (omega (arith, lt))))
     where
-      rest : is_offered (chosen rows ks) c ≡ true → is_open CPU_LIMIT (length rows) (may_have rows) marks c ≡ true
-      rest = offered_open ks c (λ i d lt. all (suc i) d (omega (arith, lt)))
 
       here : (k < length rows) × (marks k ≡ true)
       here = (let h = all 0 k (omega arith) in (h.1, h.0))
 
-      by_weight : (row : RowView) → slice_get rows k ≡ Some row → (b : Bool) → is_some (weight row c) ≡ b → (b || is_offered (chosen rows ks) c) ≡ true
+      by_weight :
+          (row : RowView) → slice_get rows k ≡ Some row → (b : Bool) → is_some (weight row c) ≡ b → (b || is_offered (chosen rows ks) c) ≡ true
+          → (is_offered (chosen rows ks) c ≡ true → is_open CPU_LIMIT (length rows) (may_have rows) marks c ≡ true)
           → is_open CPU_LIMIT (length rows) (may_have rows) marks c ≡ true
-      by_weight row is true can offered =
+      by_weight row is true can offered rest =
           open_by CPU_LIMIT (length rows) (may_have rows) marks k c here.0 here.1
           (ap (λ found. is_some (option_and_then (λ (r : RowView). weight r c) found)) is ∙ can)
-      by_weight row is false can offered = rest offered
+      by_weight row is false can offered rest = rest offered
 
-      by_row : (found : Option RowView) → slice_get rows k ≡ found → is_offered (cons_option found (chosen rows ks)) c ≡ true
+      by_row :
+          (found : Option RowView) → slice_get rows k ≡ found → is_offered (cons_option found (chosen rows ks)) c ≡ true
+          → (is_offered (chosen rows ks) c ≡ true → is_open CPU_LIMIT (length rows) (may_have rows) marks c ≡ true)
           → is_open CPU_LIMIT (length rows) (may_have rows) marks c ≡ true
-      by_row None is offered = rest offered
-      by_row (Some row) is offered = by_weight row is (is_some (weight row c)) refl offered
+      by_row None is offered rest = rest offered
+      by_row (Some row) is offered rest = by_weight row is (is_some (weight row c)) refl offered rest
 
   pub shortage_of_marks :
       AreShort CPU_LIMIT (length rows) (may_have rows) (demand_at rows) marks → IsShortage rows (marked_from 0 (length rows))

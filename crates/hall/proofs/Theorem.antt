@@ -1,18 +1,16 @@
 -- Rows have a plan, or some of them are a shortage.
-use Rattle.std.proofs.Common.{◌≡◌, ℕ, zero, suc, ◌+◌, ◌<◌, Bool, true, Option, Some, None, List, [], ◌∷◌, length, get_or, map, slice_get, refl, sym, ap, ◌∙◌, inl, inr, ◌⊎◌, arith}
+use Rattle.std.proofs.Common.{◌≡◌, ℕ, suc, ◌+◌, ◌<◌, Bool, true, Some, List, [], ◌∷◌, length, get_or, map, slice_get, refl, sym, ap, ◌∙◌, subst, inl, inr, arith}
 use Rattle.std.specs.Prelude.{All}
 use Rattle.std.specs.List.{range_with_len, cons_option}
 use Rattle.std.specs.List.Sorted.{IsStrictlyIncreasing}
 use Rattle.std.proofs.lemmas.List.FromFn.{length-range_with_len, get_or-range_with_len}
-use Rattle.std.proofs.lemmas.Option.{slice_get-get_or}
-use Rattle.cpu_set.specs.Ids.{Ids}
 use Rattle.cpu_set.specs.declared.TheConstants.{CPU_LIMIT}
 use Rattle.certificate.specs.RowView.{RowView}
 use Rattle.certificate.specs.IsPlan.{IsPlan}
 use Rattle.certificate.specs.IsShortage.{chosen}
 use Rattle.hall.specs.Asking.{demand_at, may_have}
-use Rattle.hall.specs.HallsTheorem.{HasPlan, HasShortage, HallsTheorem}
-use Rattle.hall.proofs.Serving.{AreShort, IsServed, Served, served_or_short}
+use Rattle.hall.specs.HallsTheorem.{HasPlan, HallsTheorem}
+use Rattle.hall.proofs.Serving.{Served, served_or_short}
 use Rattle.hall.proofs.Plans.{set_of, plan_of_served}
 use Rattle.hall.proofs.Shortages.{marked_from, shortage_of_marks}
 
@@ -53,4 +51,4 @@ halls_theorem rows = elim (served_or_short CPU_LIMIT (length rows) (may_have row
           omega (arith, at, long, lt) in
         let made : IsPlan (chosen rows (range_with_len 0 (length rows))) (map (set_of served.0) (range_with_len 0 (length rows))) =
         plan_of_served rows everyone served.0 served.1 (range_with_len 0 (length rows)) (range_rises 0 (length rows)) below (λ k d lt. refl) in
-        (map (set_of served.0) (range_with_len 0 (length rows)), rw (← all_chosen rows rows 0 (λ i. ap (slice_get rows) (plus i))) made)
+        (map (set_of served.0) (range_with_len 0 (length rows)), subst (λ (rs : List RowView). IsPlan rs (map (set_of served.0) (range_with_len 0 (length rows)))) (all_chosen rows rows 0 (λ i. ap (slice_get rows) (plus i))) made)

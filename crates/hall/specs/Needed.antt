@@ -36,7 +36,7 @@ pub record IsPartPlan (rows : List RowView) (members : List ℕ) (own : ℕ → 
 
 -- some of the members are known to be needed, the root among them
 pub record AreKnown (rows : List RowView) (members : List ℕ) (root : ℕ) (known : ℕ → Bool) : Type 0 where
-  pub root : known root ≡ true
+  pub root_known : known root ≡ true
   pub there : (k : ℕ) → known k ≡ true → Contains members k
   pub needed : (k : ℕ) → known k ≡ true → IsNeeded rows members k
 
