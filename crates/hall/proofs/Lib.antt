@@ -1,4 +1,3 @@
-pub mod Counting
 pub mod Moving
 pub mod Searching
 pub mod Filling

@@ -1,0 +1,4 @@
+//! Members of a shortage that can't be left out.
+#![tactic(auto)]
+
+mod marking;
