@@ -1,21 +1,22 @@
 -- One CPU more is seen, and one row more is marked.
-use Rattle.std.proofs.Common.{◌≡◌, ℕ, ◌+◌, ◌<◌, ◌≤◌, Bool, true, false, cond, ◌&&◌, ◌||◌, List, [], ◌∷◌, ◌++◌, length, get_or, set, nat_lt, refl, sym, ap, ◌∙◌, subst, inl, inr, ◌⊎◌, arith}
+use Rattle.std.proofs.Common.{◌≡◌, ℕ, ◌+◌, ◌<◌, ◌≤◌, Bool, true, false, cond, ◌&&◌, ◌||◌, List, [], ◌∷◌, ◌++◌, length, get_or, set, nat_lt, not, ◌-◌, replicate, refl, sym, ap, ◌∙◌, subst, inl, inr, ◌⊎◌, arith}
 use Rattle.std.specs.Prelude.{◌==◌, Contains}
 use Rattle.std.specs.FinSet as ids
-use Rattle.std.proofs.lemmas.Bool.{cases_eq, cases_lt, eq-eqb, eqb-true, ne_eqb, both_ways, and_parts, and_from, and_right, or_left, or_right, or_cases, ltb-true, lt-ltb}
-use Rattle.std.proofs.lemmas.List.{get_or-set_same, get_or-set_other, length-set, get_or_past, length_push, get_or_push, get_or_append_left}
+use Rattle.std.proofs.lemmas.Bool.{cases_eq, cases_lt, eq-eqb, eqb-true, ne_eqb, both_ways, and_parts, and_right, or_left, or_from, or_cases, not-true, ltb-true, lt-ltb}
+use Rattle.std.proofs.lemmas.List.{get_or-set_same, get_or-set_other, length-set, get_or_past, length_push, get_or_push, get_or_append_left, get_or-replicate, length-replicate}
 use Rattle.cpu_set.specs.Ids.{Ids}
 use Rattle.cpu_set.specs.Members.{IsCpu}
 use Rattle.cpu_set.specs.Those.{those}
 use Rattle.cpu_set.specs.ThoseLemmas.{contains-those}
-use Rattle.cpu_set.specs.PointwiseLaws.{contains-insert}
+use Rattle.cpu_set.specs.PointwiseLaws.{contains-empty, contains-insert, contains-remove, contains-difference}
+use Rattle.std.specs.Cmp.{nat_cmp_total}
 use Rattle.cpu_set.specs.declared.TheConstants.{CPU_LIMIT}
 use Rattle.certificate.specs.RowView.{RowView}
 use Rattle.hall.specs.Counting.{count, count_le, count_change}
 use Rattle.hall.specs.Needed.{IsNeeded, AreKnown, IsOpenToKnown, HoldsOfKnown, HoldersAreNeeded}
 use Rattle.blame.specs.Marking.{owner, is_marked, IsOwned, held_in, IsMarking, IsMore, AreQueued}
 
-marked_below : (marks : List Bool) (k : ℕ) → is_marked marks k ≡ true → k < length marks
+pub marked_below : (marks : List Bool) (k : ℕ) → is_marked marks k ≡ true → k < length marks
 marked_below marks k on = elim (cases_lt k (length marks)) [
   | inl lt ↦ lt
   | inr past ↦ absurd (both_ways _ (get_or_past marks k false past) on)
@@ -31,7 +32,7 @@ marks_kept marks k lt j on = elim (cases_eq j k) [
   | inr ne ↦ get_or-set_other marks k j true false ne ∙ on
 ]
 
-still_open : (rows : List RowView) (old new : List Bool) (c : ℕ) → IsMore old new → IsOpenToKnown rows (is_marked old) c → IsOpenToKnown rows (is_marked new) c
+pub still_open : (rows : List RowView) (old new : List Bool) (c : ℕ) → IsMore old new → IsOpenToKnown rows (is_marked old) c → IsOpenToKnown rows (is_marked new) c
 still_open rows old new c more at = (at.0, more at.0 at.1, at.2)
 
 -- a CPU more is seen
@@ -139,7 +140,52 @@ queued_more old new queue more row kept on before is i lt = elim (cases_lt i (le
       let same : get_or more i 0 ≡ get_or queue i 0 = ap (λ q. get_or q i 0) is ∙ get_or_append_left queue (row ∷ []) 0 i early in
       ap (is_marked new) same ∙ kept (get_or queue i 0) (before i early)
   | inr late ↦
-      let last : i ≡ length queue = omega (arith, lt, late, ap length is, length_push queue row) in
+      let last : length queue ≡ i = omega (arith, lt, late, ap length is, length_push queue row) in
       let same : get_or more i 0 ≡ row = ap (λ q. get_or q i 0) is ∙ get_or_push queue row 0 i last in
       ap (is_marked new) same ∙ on
 ]
+
+-- ---- the CPUs of a set, one after another
+
+pub left_fewer : (before left : Ids) (cpu : ℕ) → left ≡ ids.remove before cpu → ids.contains before cpu ≡ true → ids.len left < ids.len before
+left_fewer before left cpu less on = omega (arith, fewer, some)
+  where
+    fewer : ids.len left ≡ ids.len before - 1
+    fewer = ap ids.len less ∙ ids.len-remove nat_cmp_total before cpu ∙ ap (λ b. cond b (ids.len before - 1) (ids.len before)) on
+
+    some : ids.len before ≡ 0 → ⊥
+    some none = both_ways _ (ap (λ s. ids.contains s cpu) (ids.empty_of_len before none) ∙ contains-empty cpu) on
+
+-- what is left is of the set, and was not seen
+abbrev pub AreUnseen : Ids → Ids → Ids → Type 0
+AreUnseen cpus seen left = (c : ℕ) → ids.contains left c ≡ true → (ids.contains cpus c ≡ true) × (ids.contains seen c ≡ false)
+
+pub unseen_first : (cpus seen left : Ids) → left ≡ ids.difference cpus seen → AreUnseen cpus seen left
+unseen_first cpus seen left is c on =
+    let parts = and_parts (ids.contains cpus c) (not (ids.contains seen c)) (sym (contains-difference cpus seen c) ∙ subst (λ s. ids.contains s c ≡ true) is on) in
+    (parts.0, not-true _ parts.1)
+
+pub unseen_next :
+    (cpus seen more before left : Ids) (cpu : ℕ) → AreUnseen cpus seen before → left ≡ ids.remove before cpu → more ≡ ids.insert seen cpu → AreUnseen cpus more left
+unseen_next cpus seen more before left cpu unseen less is c on =
+    let parts = and_parts (not (c == cpu)) (ids.contains before c) (sym (contains-remove before cpu c) ∙ subst (λ s. ids.contains s c ≡ true) less on) in
+    let was = unseen c parts.1 in
+    (was.0, subst (λ s. ids.contains s c ≡ false) (sym is) (contains-insert seen cpu c ∙ or_from (c == cpu) (ids.contains seen c) (not-true _ parts.0) was.1))
+
+-- before any CPU is seen
+pub none_seen :
+    (rows : List RowView) (members own : List ℕ) (root : ℕ) (known : List Bool) (seen : Ids) (of_row : List ℕ) (n : ℕ)
+    → length known ≡ length rows → AreKnown rows members root (is_marked known) → seen ≡ ids.empty → of_row ≡ replicate n 0
+    → IsMarking rows members own root known seen of_row
+none_seen rows members own root known seen of_row n long known_are none zero = record {
+  long = long;
+  known_are = known_are;
+  seen_open = λ c on. absurd (both_ways _ (ap (λ s. ids.contains s c) none ∙ contains-empty c) on);
+  counted = λ k. omega (arith, at_zero k);
+}
+  where
+    at_zero : (k : ℕ) → get_or of_row k 0 ≡ 0
+    at_zero k = ap (λ xs. get_or xs k 0) zero ∙ elim (cases_lt k n) [
+      | inl lt ↦ get_or-replicate n k 0 0 lt
+      | inr past ↦ get_or_past (replicate n 0) k 0 (omega (arith, past, length-replicate n 0))
+    ]
