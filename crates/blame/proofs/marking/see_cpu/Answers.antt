@@ -21,7 +21,7 @@ returns-then-row-known-clause-marking c = λ rows members owned m at.
 
 pub returns-then-known-row-clause-marking : goal.returns-then-known-row-clause-marking
 returns-then-known-row-clause-marking c = λ rows members owned m at.
-    let lt = omega (arith, c.if-row-known.false, c.requires.as_long) in
+    let lt : c.index-row.result.now < length c.args.of_row.now = omega (arith, c.if-row-known.false, c.requires.as_long) in
     let its = counted c.args.part.now.own.items c.args.of_row.now c.args.cpu c.index-row.result.now c.saturating_add.result c.index-row.ensures
         (omega (arith, c.requires.own, c.requires.cpu)) lt (omega (arith, c.saturating_add.ensures)) in
     rw c.insert.ensures
@@ -30,10 +30,11 @@ returns-then-known-row-clause-marking c = λ rows members owned m at.
 
 pub returns-clause-marking : goal.returns-clause-marking
 returns-clause-marking c = λ rows members owned m at.
-    let lt = omega (arith, c.if-row-known.false, c.requires.as_long) in
+    let lt : c.index-row.result.now < length c.args.of_row.now = omega (arith, c.if-row-known.false, c.requires.as_long) in
     let its = counted c.args.part.now.own.items c.args.of_row.now c.args.cpu c.index-row.result.now c.saturating_add.result c.index-row.ensures
         (omega (arith, c.requires.own, c.requires.cpu)) lt (omega (arith, c.saturating_add.ensures)) in
-    let enough = omega (arith, c.if-of_row-row.false, get_or-set_same c.args.of_row.now c.index-row.result.now c.saturating_add.result 0 lt) in
+    let enough : c.args.part.now.lacking ≤ get_or (set c.args.of_row.now c.index-row.result.now c.saturating_add.result) c.index-row.result.now 0 =
+    omega (arith, c.if-of_row-row.false, get_or-set_same c.args.of_row.now c.index-row.result.now c.saturating_add.result 0 lt) in
     rw c.insert.ensures
     (marked_more rows members c.args.part.now.own.items c.args.part.now.root c.args.part.now.lacking c.args.known.now _ _ c.args.cpu c.index-row.result.now
     c.holders_are_needed.ensures owned
