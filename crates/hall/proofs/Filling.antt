@@ -53,11 +53,14 @@ module _ (cpus rows : ℕ) (may : ℕ → ℕ → Bool) (demands : ℕ → ℕ) 
       few k lt (inr ne) (inr past) = omega (arith, end.others k lt ne, before.none k past lt)
 
   fill_from : (left upto : ℕ) (own : ℕ → ℕ) → upto + left ≡ rows → AreFilled own upto → AllOrStopped
-  fill_from zero upto own e before = inl (own, record {
-    allowed = before.allowed;
-    met = λ k lt. before.met k (omega (arith, e, lt));
-    none = λ k past lt. absurd (omega (arith, past, lt));
-  })
+  fill_from zero upto own e before = inl (
+    own,
+    record {
+      allowed = before.allowed;
+      met = λ k lt. before.met k (omega (arith, e, lt));
+      none = λ k past lt. absurd (omega (arith, past, lt));
+    },
+  )
   fill_from (suc left) upto own e before =
       let there : upto < rows = omega (arith, e) in
       elim (fill cpus rows may upto there (demands upto) own (demands upto) before.allowed (omega (arith, before.none upto (omega arith) there))) [

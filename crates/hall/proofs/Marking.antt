@@ -49,9 +49,9 @@ module _ (cpus rows : ℕ) (may : ℕ → ℕ → Bool) (demands : ℕ → ℕ) 
         all k lt on = elim (cases_Bool (marks k)) [
           | inl in_it ↦ in_it
           | inr off ↦ absurd (
-            served_not_short cpus rows may demands (without who k) marks (k_are.served k lt on)
-            (λ j j_lt marked. in_without who k j (and_parts (who j) _ (within j marked)).0 (λ e. both_ways (marks k) off (subst (λ i. marks i ≡ true) e marked))) short
-          )
+              served_not_short cpus rows may demands (without who k) marks (k_are.served k lt on)
+              (λ j j_lt marked. in_without who k j (and_parts (who j) _ (within j marked)).0 (λ e. both_ways (marks k) off (subst (λ i. marks i ≡ true) e marked))) short
+              )
         ]
 
         each : (k : ℕ) → k < rows → (k ≡ root → ⊥) → (b : Bool) → marks k ≡ b → cond {A = ℕ} b (demands k) 0 ≡ cond {A = ℕ} b (held cpus own k) 0

@@ -83,8 +83,8 @@ module _ (rows : List RowView) (members : List ℕ) (rising : IsStrictlyIncreasi
   served_but m plan =
       served_of_plan rows (without (is_among members) m) (others members m) plan.0 (others_there m) (others_rise m) plan.1
       (λ k on.
-        let parts = and_parts (is_among members k) (not (k == m)) on in
-        contains_kept (λ j. not (j == m)) members k (among_contains members k parts.0) parts.1)
+      let parts = and_parts (is_among members k) (not (k == m)) on in
+      contains_kept (λ j. not (j == m)) members k (among_contains members k parts.0) parts.1)
 
   needed_of : (m : ℕ) → AreServed rows (without (is_among members) m) → IsNeeded rows members m
   needed_of m served =

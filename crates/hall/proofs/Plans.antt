@@ -216,7 +216,10 @@ module _ (rows : List RowView) (nobody : ℕ) (past : length rows ≤ nobody) wh
 pub served_of_plan :
     (rows : List RowView) (who : ℕ → Bool) (ks : List ℕ) (sets : List Ids) → All (λ k. k < length rows) ks → IsStrictlyIncreasing ks
     → IsPlan (chosen rows ks) sets → ((k : ℕ) → who k ≡ true → Contains ks k) → AreServed rows who
-served_of_plan rows who ks sets there rising plan within = (holder (length rows) ks sets, record {
-  allowed = λ c lt mine. allowed_by rows (length rows) (omega arith) ks sets there plan.met c mine;
-  met = λ k lt on. held_by rows (length rows) (omega arith) ks sets there rising plan.met plan.apart k (within k on);
-})
+served_of_plan rows who ks sets there rising plan within = (
+  holder (length rows) ks sets,
+  record {
+    allowed = λ c lt mine. allowed_by rows (length rows) (omega arith) ks sets there plan.met c mine;
+    met = λ k lt on. held_by rows (length rows) (omega arith) ks sets there rising plan.met plan.apart k (within k on);
+  },
+)

@@ -122,12 +122,14 @@ module _ (cpus rows : ℕ) (may : ℕ → ℕ → Bool) where
               let found : CanGain r (handed other b) =
               (reach k on).1 (handed other b) (handed_allowed other b b_lt free kept allowed may_b)
               (handed_same other b b_lt free kept (λ x x_lt mine marked. same x x_lt mine (or_left _ _ marked)))
-              c lt (omega (arith, handed_c other b b_lt free kept)) can in
-              (found.0, record {
-                allowed = found.1.allowed;
-                more = omega (arith, found.1.more, handed_held other b b_lt free kept r there);
-                others = λ i i_lt ne. omega (arith, found.1.others i i_lt ne, handed_held other b b_lt free kept i i_lt);
-              })
+              c lt (omega (arith, handed_c other b b_lt free kept)) can in (
+                found.0,
+                record {
+                  allowed = found.1.allowed;
+                  more = omega (arith, found.1.more, handed_held other b b_lt free kept r there);
+                  others = λ i i_lt ne. omega (arith, found.1.others i i_lt ne, handed_held other b b_lt free kept i i_lt);
+                },
+              )
 
       pub reach_more : IsReach r own marks_more
       unfolding marks_more
@@ -230,11 +232,14 @@ module _ (cpus rows : ℕ) (may : ℕ → ℕ → Bool) where
         (n : ℕ) (own : ℕ → ℕ) (marks : ℕ → Bool) → IsAllowed own → IsReach r own marks → marks r ≡ true → count (λ k. not (marks k)) rows ≤ n
         → Again n own → Found own
     step n own marks allowed reach root few again = elim (pair_or_none (open_end own marks) rows cpus) [
-      | inr none ↦ inr (marks, record {
-        root = root;
-        within = λ k on. (reach k on).0;
-        full = λ k c on lt can. not_open own marks k c (none k c (reach k on).0 lt) on can;
-      })
+      | inr none ↦ inr (
+        marks,
+        record {
+          root = root;
+          within = λ k on. (reach k on).0;
+          full = λ k c on lt can. not_open own marks k c (none k c (reach k on).0 lt) on can;
+        },
+      )
       | inl found ↦ at_open n own marks allowed reach root few again found.0 found.1 found.3 (opens own marks found.0 found.1 found.4)
     ]
 
@@ -267,16 +272,23 @@ module _ (cpus rows : ℕ) (may : ℕ → ℕ → Bool) where
     FilledOrLacking own wanted = ((new : ℕ → ℕ) × IsFilled own new wanted) ⊎ ((new : ℕ → ℕ) × (marks : ℕ → Bool) × IsLacking own new marks wanted)
 
     gained : (own new : ℕ → ℕ) (wanted : ℕ) → IsGain r own new → FilledOrLacking new wanted → FilledOrLacking own wanted
-    gained own new wanted gain (inl end) = inl (end.0, record {
-      allowed = end.1.allowed;
-      filled = end.1.filled;
-      others = λ k lt ne. end.1.others k lt ne ∙ gain.others k lt ne;
-    })
-    gained own new wanted gain (inr end) = inr (end.0, end.1, record {
-      stopped = end.2.stopped;
-      lacks = end.2.lacks;
-      others = λ k lt ne. end.2.others k lt ne ∙ gain.others k lt ne;
-    })
+    gained own new wanted gain (inl end) = inl (
+      end.0,
+      record {
+        allowed = end.1.allowed;
+        filled = end.1.filled;
+        others = λ k lt ne. end.1.others k lt ne ∙ gain.others k lt ne;
+      },
+    )
+    gained own new wanted gain (inr end) = inr (
+      end.0,
+      end.1,
+      record {
+        stopped = end.2.stopped;
+        lacks = end.2.lacks;
+        others = λ k lt ne. end.2.others k lt ne ∙ gain.others k lt ne;
+      },
+    )
 
     pub fill : (n : ℕ) (own : ℕ → ℕ) (wanted : ℕ) → IsAllowed own → held cpus own r + n ≡ wanted → FilledOrLacking own wanted
     fill zero own wanted allowed e = inl (own, record { allowed = allowed; filled = omega (arith, e); others = λ k lt ne. refl })

@@ -104,7 +104,6 @@ module _ (rows : List RowView) (marks : ℕ → Bool) where
   offered_open [] c all on = absurd (false≢true on)
   offered_open (k ∷ ks) c all on = by_row (slice_get rows k) refl on (offered_open ks c (λ i d lt. all (suc i) d (omega (arith, lt))))
     where
-
       here : (k < length rows) × (marks k ≡ true)
       here = (let h = all 0 k (omega arith) in (h.1, h.0))
 

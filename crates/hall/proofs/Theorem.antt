@@ -46,9 +46,9 @@ halls_theorem rows = elim (served_or_short CPU_LIMIT (length rows) (may_have row
     plan served =
         let ks : List ℕ = range_with_len 0 (length rows) in
         let below : All (λ k. k < length rows) (range_with_len 0 (length rows)) = λ k d lt.
-          let long = length-range_with_len 0 (length rows) in
-          let at = get_or-range_with_len 0 (length rows) k d (omega (arith, long, lt)) in
-          omega (arith, at, long, lt) in
+        let long = length-range_with_len 0 (length rows) in
+        let at = get_or-range_with_len 0 (length rows) k d (omega (arith, long, lt)) in
+        omega (arith, at, long, lt) in
         let made : IsPlan (chosen rows (range_with_len 0 (length rows))) (map (set_of served.0) (range_with_len 0 (length rows))) =
         plan_of_served rows everyone served.0 served.1 (range_with_len 0 (length rows)) (range_rises 0 (length rows)) below (λ k d lt. refl) in
         (map (set_of served.0) (range_with_len 0 (length rows)), subst (λ (rs : List RowView). IsPlan rs (map (set_of served.0) (range_with_len 0 (length rows)))) (all_chosen rows rows 0 (λ i. ap (slice_get rows) (plus i))) made)
