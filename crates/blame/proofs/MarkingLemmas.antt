@@ -187,5 +187,5 @@ none_seen rows members own root known seen of_row n long known_are none zero = r
     at_zero : (k : ℕ) → get_or of_row k 0 ≡ 0
     at_zero k = ap (λ xs. get_or xs k 0) zero ∙ elim (cases_lt k n) [
       | inl lt ↦ get_or-replicate n k 0 0 lt
-      | inr past ↦ get_or_past (replicate n 0) k 0 (omega (arith, past, length-replicate n 0))
+      | inr past ↦ get_or_past (replicate n 0) k 0 (let long : length (replicate {A = ℕ} n 0) ≡ n = length-replicate {A = ℕ} n 0 in omega (arith, past, long))
     ]
