@@ -17,8 +17,10 @@ HERE = {"PATH": "/bin:/usr/bin:/app", "HOME": "/root", "DOCKER_RAMDISK": "1"}  #
 
 
 def begin(**config):
-    """A daemon that answers, with this in its daemon.json; its process."""
+    """A daemon that answers, with this in its daemon.json; its process. It starts a runtime that has words of its own by a script of sh's."""
     os.makedirs("/etc/docker", exist_ok=True)
+    if not os.path.lexists("/bin/sh"):
+        os.symlink("/app/dash", "/bin/sh")
     if not os.path.exists("/var/run"):
         os.symlink("/run", "/var/run")
     with open("/etc/docker/daemon.json", "w") as file:
