@@ -10,12 +10,18 @@ FILES = ("cpuset.cpus", "cpuset.mems", "cpuset.cpus.effective", "cgroup.kill", "
 
 
 def lived(program, machine, script, make, words=()):
-    """The answers and notes of a script over a root that this makes, and its lines that are functions are called with the root."""
+    """The answers and notes of a script over a root that this makes, and its lines that are functions are called with the root.
+
+    The first of them is called when the program has answered a `list`, because it has opened the root by then.
+    """
     folder = tempfile.mkdtemp()
     root = folder + "/root"
     make(root)
     started = subprocess.Popen([program, "run", machine, "--cgroup", root, *words], stdin=subprocess.PIPE, stdout=subprocess.PIPE,
                                stderr=subprocess.PIPE)
+    started.stdin.write(b"list\n")
+    started.stdin.flush()
+    assert started.stdout.readline() == b"end\n"
     answers = []
     for line in script:
         if callable(line):
