@@ -1,10 +1,11 @@
 -- Which write is due in the direct order, case by case; each is one that may be made.
-use Rattle.std.proofs.Common.{◌≡◌, ℕ, ◌≤◌, max, Bool, true, false, not, ◌&&◌, ◌||◌, List, [], ◌∷◌, refl, sym, ◌∙◌, subst, inl, inr}
+use Rattle.std.proofs.Common.{◌≡◌, ℕ, ◌≤◌, max, Bool, true, false, not, ◌&&◌, ◌||◌, List, [], ◌∷◌, refl, sym, ap, ◌∙◌, subst, inl, inr}
 use Rattle.std.proofs.lemmas.Bool.{false≢true}
 use Rattle.std.specs.Prelude.{◌⊎◌, cond, find, Option, Some, None, option_map}
 use Rattle.std.specs.List.{AllByRecursion}
 use Rattle.std.specs.FinSet as set
 use Rattle.cpu_set.specs.Ids.{Ids, is_empty}
+use Rattle.cpu_set.specs.PointwiseLaws.{same_members, contains-difference}
 use Rattle.cpu_set.specs.SetLaws.{is_empty-some, none_of_empty}
 use Rattle.kernel_model.specs.KernelState.{KernelState}
 use Rattle.apply_plan.specs.declared.entry.Entry.{Entry}
@@ -39,10 +40,10 @@ pub data Direct (d : Directed) (least : Least) (k : KernelState) : Option Write 
   Shares : (e : Entry) → NoneGoes k d.targets.reserved d.targets.entries → find (shares k d.targets.reserved d.targets.entries) d.targets.entries ≡ Some e
       → Direct d least k (Some (write_of e (shared_way k d.targets.reserved d.targets.entries e)))
   StepsAside : (e : Entry) → NoneGoes k d.targets.reserved d.targets.entries → find (shares k d.targets.reserved d.targets.entries) d.targets.entries ≡ None
-      → find (steps_aside k d.targets.reserved d.targets.entries (allowed_of d)) d.targets.entries ≡ Some e
+      → find (steps_aside k d.targets.reserved d.targets.entries (allowed_of d) least) d.targets.entries ≡ Some e
       → Direct d least k (Some (write_of e (aside k d.targets.reserved d.targets.entries (allowed_of d) least e)))
   IsSqueezed : (e : Entry) → NoneGoes k d.targets.reserved d.targets.entries → find (shares k d.targets.reserved d.targets.entries) d.targets.entries ≡ None
-      → find (steps_aside k d.targets.reserved d.targets.entries (allowed_of d)) d.targets.entries ≡ None → find (must_yield k d.targets.reserved d.targets.entries) d.targets.entries ≡ Some e
+      → find (steps_aside k d.targets.reserved d.targets.entries (allowed_of d) least) d.targets.entries ≡ None → find (must_yield k d.targets.reserved d.targets.entries) d.targets.entries ≡ Some e
       → Direct d least k (Some (write_of e (squeezed k d.targets.reserved d.targets.entries e)))
   Rests : NoneGoes k d.targets.reserved d.targets.entries → find (must_yield k d.targets.reserved d.targets.entries) d.targets.entries ≡ None
       → find (may_take k d.targets.reserved d.targets.entries) d.targets.entries ≡ None → Direct d least k None
@@ -68,10 +69,10 @@ module _ (d : Directed) (least : Least) (k : KernelState) where
   pub direct_is : Direct d least k (due_directly d least k)
   direct_is =
       by (find (is_new k reserved entries) entries) (find (is_mover k reserved entries) entries) (find (is_grower k reserved entries) entries)
-      (find (shares k reserved entries) entries) (find (steps_aside k reserved entries (allowed_of d)) entries) (find (must_yield k reserved entries) entries)
+      (find (shares k reserved entries) entries) (find (steps_aside k reserved entries (allowed_of d) least) entries) (find (must_yield k reserved entries) entries)
       (find (may_take k reserved entries) entries) refl refl refl refl refl refl refl where
         by : (n m g s a y t : Option Entry) → find (is_new k reserved entries) entries ≡ n → find (is_mover k reserved entries) entries ≡ m → find (is_grower k reserved entries) entries ≡ g
-            → find (shares k reserved entries) entries ≡ s → find (steps_aside k reserved entries (allowed_of d)) entries ≡ a → find (must_yield k reserved entries) entries ≡ y
+            → find (shares k reserved entries) entries ≡ s → find (steps_aside k reserved entries (allowed_of d) least) entries ≡ a → find (must_yield k reserved entries) entries ≡ y
             → find (may_take k reserved entries) entries ≡ t
             → Direct d least k (first_due (
             option_map (λ e. write_of e e.target) n ∷ option_map (λ e. write_of e e.target) m ∷ option_map (λ e. write_of e e.target) g
@@ -124,13 +125,15 @@ module _ (d : Directed) (valid : IsHandover d.targets) (least : Least) (gives : 
         (in_minus (set.intersection (allowed_of d e) (spare k d.targets.reserved d.targets.entries)) (asked k d.targets.reserved d.targets.entries e) q m).0).0
 
     -- where it has no room on its way, its places are beside its way
-    places_left : has_room k d.targets.reserved d.targets.entries e ≡ false → is_empty its_places ≡ false → is_empty (set.difference its_places its_way) ≡ false
-    places_left none some = bigger_some its_places (set.difference its_places its_way)
-        (λ q m. minus_has its_places its_way q m
+    places_left : has_room k d.targets.reserved d.targets.entries e ≡ false → its_places ≡ set.difference its_places its_way
+    places_left none = same_members its_places (set.difference its_places its_way)
+        (λ q. by_test (set.contains its_places q)
+        (λ m. m ∙ sym (minus_has its_places its_way q m
         (by_test (set.contains its_way q)
         (λ in_way. absurd (false≢true (sym (of_spare q m).1
         ∙ none_own d.targets.reserved (set.intersection its_way k.tree.online) none q (meet_has its_way k.tree.online q in_way (of_spare q m).0))))
-        (λ out. out))) some
+        (λ out. out))))
+        (λ o. o ∙ sym (contains-difference its_places its_way q ∙ ap (λ b. b && not (set.contains its_way q)) o)))
 
     -- what it gets of its places are places
     pub extra_within : (q : ℕ) → set.contains extra q ≡ true → set.contains its_places q ≡ true
@@ -138,23 +141,23 @@ module _ (d : Directed) (valid : IsHandover d.targets) (least : Least) (gives : 
         (in_minus its_places its_way q (gives.told.within (set.difference its_places its_way)
         (cond (has_room k d.targets.reserved d.targets.entries e) (lacks k d.targets.reserved d.targets.entries e) (max (lacks k d.targets.reserved d.targets.entries e) 1)) q m)).0
 
-    pub extra_some : has_room k d.targets.reserved d.targets.entries e ≡ false → is_empty its_places ≡ false → is_empty extra ≡ false
+    pub extra_some : has_room k d.targets.reserved d.targets.entries e ≡ false → is_empty (least its_places 1) ≡ false → is_empty extra ≡ false
     extra_some none some =
         gives.told.some (set.difference its_places its_way)
         (cond (has_room k d.targets.reserved d.targets.entries e) (lacks k d.targets.reserved d.targets.entries e) (max (lacks k d.targets.reserved d.targets.entries e) 1))
         (λ q m. allowed_range d.targets.entries d.allowed e gives.ranged q (in_places q (in_minus its_places its_way q m).0))
-        (places_left none some)
+        (subst (λ (s : Ids). is_empty (least s 1) ≡ false) (places_left none) some)
         (subst (λ (b : Bool). 1 ≤ cond b (lacks k d.targets.reserved d.targets.entries e) (max (lacks k d.targets.reserved d.targets.entries e) 1)) (sym none)
         (le-max_right (lacks k d.targets.reserved d.targets.entries e) 1))
 
     -- it steps aside onto some CPUs
-    aside_some : steps_aside k d.targets.reserved d.targets.entries (allowed_of d) e ≡ true → is_empty (set.union its_way extra) ≡ false
+    aside_some : steps_aside k d.targets.reserved d.targets.entries (allowed_of d) least e ≡ true → is_empty (set.union its_way extra) ≡ false
     aside_some aside_it = by_test (has_room k d.targets.reserved d.targets.entries e)
         (λ room. bigger_some its_way (set.union its_way extra) (λ q m. union_left its_way extra q m) (some_if_own its_way k.tree.online room))
         (λ none. bigger_some extra (set.union its_way extra) (λ q m. union_right its_way extra q m)
-        (extra_some none (no_more (is_empty its_places) (place (has_room k d.targets.reserved d.targets.entries e) (has_place k d.targets.reserved d.targets.entries (allowed_of d) e) none
-        (both_of (must_yield k d.targets.reserved d.targets.entries e) (has_room k d.targets.reserved d.targets.entries e || has_place k d.targets.reserved d.targets.entries (allowed_of d) e)
-        (both_of e.pinned (must_yield k d.targets.reserved d.targets.entries e && (has_room k d.targets.reserved d.targets.entries e || has_place k d.targets.reserved d.targets.entries (allowed_of d) e)) aside_it).1).1))))
+        (extra_some none (no_more (is_empty (least its_places 1)) (place (has_room k d.targets.reserved d.targets.entries e) (has_place k d.targets.reserved d.targets.entries (allowed_of d) least e) none
+        (both_of (must_yield k d.targets.reserved d.targets.entries e) (has_room k d.targets.reserved d.targets.entries e || has_place k d.targets.reserved d.targets.entries (allowed_of d) least e)
+        (both_of e.pinned (must_yield k d.targets.reserved d.targets.entries e && (has_room k d.targets.reserved d.targets.entries e || has_place k d.targets.reserved d.targets.entries (allowed_of d) least e)) aside_it).1).1))))
       where
         place : (x y : Bool) → x ≡ false → (x || y) ≡ true → y ≡ true
         place true y a b = absurd (false≢true (sym a))
@@ -193,7 +196,7 @@ module _ (d : Directed) (valid : IsHandover d.targets) (least : Least) (gives : 
           (λ some. subst (λ b. Makes d k (write_of e (cond b (set.union its_way d.targets.reserved) its_way))) (sym some)
           (made its_way (some_if_meets its_way k.tree.online some) (λ q m. inl m) (λ q m. m)))
 
-      aside_made : steps_aside k d.targets.reserved d.targets.entries (allowed_of d) e ≡ true → Makes d k (write_of e (set.union its_way extra))
+      aside_made : steps_aside k d.targets.reserved d.targets.entries (allowed_of d) least e ≡ true → Makes d k (write_of e (set.union its_way extra))
       aside_made aside_it = made (set.union its_way extra) (aside_some aside_it) (λ q m. by q (in_union its_way extra q m)) (λ q m. union_left its_way extra q m) where
         by : (q : ℕ) → (set.contains its_way q ≡ true) ⊎ (set.contains extra q ≡ true)
             → (set.contains its_way q ≡ true) ⊎ ((set.contains d.targets.reserved q ≡ true) ⊎ (set.contains its_places q ≡ true))
@@ -217,9 +220,9 @@ module _ (d : Directed) (valid : IsHandover d.targets) (least : Least) (gives : 
       shared_made e (shares k d.targets.reserved d.targets.entries) found
       (both_of (not e.pinned) (must_yield k d.targets.reserved d.targets.entries e) (find_passes (shares k d.targets.reserved d.targets.entries) d.targets.entries e found)).1
   makes w (StepsAside e none no_share found) =
-      let passes = find_passes (steps_aside k d.targets.reserved d.targets.entries (allowed_of d)) d.targets.entries e found in
-      aside_made e (steps_aside k d.targets.reserved d.targets.entries (allowed_of d)) found
-      (both_of (must_yield k d.targets.reserved d.targets.entries e) (has_room k d.targets.reserved d.targets.entries e || has_place k d.targets.reserved d.targets.entries (allowed_of d) e)
-      (both_of e.pinned (must_yield k d.targets.reserved d.targets.entries e && (has_room k d.targets.reserved d.targets.entries e || has_place k d.targets.reserved d.targets.entries (allowed_of d) e)) passes).1).0 passes
+      let passes = find_passes (steps_aside k d.targets.reserved d.targets.entries (allowed_of d) least) d.targets.entries e found in
+      aside_made e (steps_aside k d.targets.reserved d.targets.entries (allowed_of d) least) found
+      (both_of (must_yield k d.targets.reserved d.targets.entries e) (has_room k d.targets.reserved d.targets.entries e || has_place k d.targets.reserved d.targets.entries (allowed_of d) least e)
+      (both_of e.pinned (must_yield k d.targets.reserved d.targets.entries e && (has_room k d.targets.reserved d.targets.entries e || has_place k d.targets.reserved d.targets.entries (allowed_of d) least e)) passes).1).0 passes
   makes w (IsSqueezed e none no_share no_aside found) =
       squeezed_made e (must_yield k d.targets.reserved d.targets.entries) found (find_passes (must_yield k d.targets.reserved d.targets.entries) d.targets.entries e found)

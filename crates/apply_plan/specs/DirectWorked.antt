@@ -33,6 +33,10 @@ third_offline of_web of_batch = record (both_live of_web of_batch) { tree = reco
 abbrev pub whole : Least
 whole s count = s
 
+-- no CPUs, as if of each core one were lacking in the set
+abbrev pub halved : Least
+halved s count = set.from_list []
+
 -- the write is one by which the group requests these CPUs
 abbrev pub gives : Option Write → Group → List ℕ → Bool
 gives None g cpus = false

@@ -57,13 +57,13 @@ module _ (k : KernelState) (reserved : Ids) (entries : List Entry) where
   lacks e = min (set.len (held k e)) (set.len e.target) - set.len (way k reserved entries e)
 
   module _ (allowed : Entry → Ids) where
-    -- it has a place
-    abbrev pub has_place : Entry → Bool
-    has_place e = not (is_empty (places k reserved entries (allowed e) e))
+    -- it has a place: one can be given of them, so where cores are given, the whole of a core
+    abbrev pub has_place : Least → Entry → Bool
+    has_place least e = not (is_empty (least (places k reserved entries (allowed e) e) 1))
 
     -- a pinned one that keeps CPUs of its own
-    abbrev pub steps_aside : Entry → Bool
-    steps_aside e = e.pinned && (must_yield e && (has_room e || has_place e))
+    abbrev pub steps_aside : Least → Entry → Bool
+    steps_aside least e = e.pinned && (must_yield e && (has_room e || has_place least e))
 
     -- what it gets: its way, and of its places as many as it lacks, one at least where it has none of its own else
     abbrev pub aside : Least → Entry → Ids
@@ -95,7 +95,7 @@ direct_write k reserved entries allowed least =
     ∷ gets (is_mover k reserved entries) (λ e. e.target) entries
     ∷ gets (is_grower k reserved entries) (λ e. e.target) entries
     ∷ gets (shares k reserved entries) (shared_way k reserved entries) entries
-    ∷ gets (steps_aside k reserved entries allowed) (aside k reserved entries allowed least) entries
+    ∷ gets (steps_aside k reserved entries allowed least) (aside k reserved entries allowed least) entries
     ∷ gets (must_yield k reserved entries) (squeezed k reserved entries) entries
     ∷ gets (may_take k reserved entries) (λ e. e.target) entries
     ∷ []

@@ -29,14 +29,15 @@ allowed_in (d ∷ later) (s ∷ sets) e = cond (same_group d.group e.group) s (a
 abbrev pub allowed_of : Directed → Entry → Ids
 allowed_of d e = allowed_in d.targets.entries d.allowed e
 
--- the least CPUs of a set, so many as are asked for, or as many as make whole cores up
+-- the least CPUs of a set, so many as are asked for, or as many as make whole cores up. Where CPUs are given by cores, those of a
+-- core of which the set has a part alone are not given.
 abbrev pub Least : Type 0
 Least = Ids → ℕ → Ids
 
--- they are CPUs of the set, and some where it has some, all below the limit, and some are asked for
+-- they are CPUs of the set; and of a set, all below the limit, of which one can be given, some are given if some are asked for
 pub record IsLeast (least : Least) : Type 0 where
   pub within : (s : Ids) (count cpu : ℕ) → set.contains (least s count) cpu ≡ true → set.contains s cpu ≡ true
-  pub some : (s : Ids) (count : ℕ) → InRange s → is_empty s ≡ false → 1 ≤ count → is_empty (least s count) ≡ false
+  pub some : (s : Ids) (count : ℕ) → InRange s → is_empty (least s 1) ≡ false → 1 ≤ count → is_empty (least s count) ≡ false
 
 -- when a direct hand-over may begin
 pub record IsDirected (d : Directed) : Type 0 where

@@ -43,4 +43,6 @@ pub mod NextLemmas
 pub mod TurnLemmas
 pub mod DirectRuns
 pub mod DirectRunLemmas
+pub mod DirectOneStep
+pub mod DirectOneStepLemmas
 pub mod DirectWorked

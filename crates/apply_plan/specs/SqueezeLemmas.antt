@@ -65,12 +65,12 @@ module _ (d : Directed) (valid : IsHandover d.targets) (least : Least) (gives : 
 
   -- where none that shares yields and none steps aside, whoever must yield is full
   module _ (no_share : find (shares k d.targets.reserved d.targets.entries) d.targets.entries ≡ None)
-      (no_aside : find (steps_aside k d.targets.reserved d.targets.entries (allowed_of d)) d.targets.entries ≡ None) where
-    full_one : (a : Entry) → shares k d.targets.reserved d.targets.entries a ≡ false → steps_aside k d.targets.reserved d.targets.entries (allowed_of d) a ≡ false
-        → must_yield k d.targets.reserved d.targets.entries a ≡ true → IsFull d k a
+      (no_aside : find (steps_aside k d.targets.reserved d.targets.entries (allowed_of d) least) d.targets.entries ≡ None) where
+    full_one : (a : Entry) → shares k d.targets.reserved d.targets.entries a ≡ false → steps_aside k d.targets.reserved d.targets.entries (allowed_of d) least a ≡ false
+        → must_yield k d.targets.reserved d.targets.entries a ≡ true → IsFull d least k a
     full_one a shared aside yields =
         let pinned : a.pinned ≡ true = own a.pinned (must_yield k d.targets.reserved d.targets.entries a) yields shared in
-        let both_off = none_of a.pinned (must_yield k d.targets.reserved d.targets.entries a) (has_room k d.targets.reserved d.targets.entries a) (has_place k d.targets.reserved d.targets.entries (allowed_of d) a) pinned yields aside in
+        let both_off = none_of a.pinned (must_yield k d.targets.reserved d.targets.entries a) (has_room k d.targets.reserved d.targets.entries a) (has_place k d.targets.reserved d.targets.entries (allowed_of d) least a) pinned yields aside in
         record { pinned = pinned; no_room = both_off.0; no_place = both_off.1 } where
           own : (p y : Bool) → y ≡ true → (not p && y) ≡ false → p ≡ true
           own true y a b = refl
@@ -83,14 +83,14 @@ module _ (d : Directed) (valid : IsHandover d.targets) (least : Least) (gives : 
           none_of false y r l a b c = absurd (false≢true a)
           none_of true false r l a b c = absurd (false≢true b)
 
-    pub all_are_full : AllByRecursion (λ a. must_yield k d.targets.reserved d.targets.entries a ≡ true → IsFull d k a) d.targets.entries
+    pub all_are_full : AllByRecursion (λ a. must_yield k d.targets.reserved d.targets.entries a ≡ true → IsFull d least k a) d.targets.entries
     all_are_full =
-        all_map2 (λ a. shares k d.targets.reserved d.targets.entries a ≡ false) (λ a. steps_aside k d.targets.reserved d.targets.entries (allowed_of d) a ≡ false)
-        (λ a. must_yield k d.targets.reserved d.targets.entries a ≡ true → IsFull d k a) full_one d.targets.entries
+        all_map2 (λ a. shares k d.targets.reserved d.targets.entries a ≡ false) (λ a. steps_aside k d.targets.reserved d.targets.entries (allowed_of d) least a ≡ false)
+        (λ a. must_yield k d.targets.reserved d.targets.entries a ≡ true → IsFull d least k a) full_one d.targets.entries
         (find_none (shares k d.targets.reserved d.targets.entries) d.targets.entries no_share)
-        (find_none (steps_aside k d.targets.reserved d.targets.entries (allowed_of d)) d.targets.entries no_aside)
+        (find_none (steps_aside k d.targets.reserved d.targets.entries (allowed_of d) least) d.targets.entries no_aside)
 
-    pub is_stuck : (e : Entry) → NoneGoes k d.targets.reserved d.targets.entries → find (must_yield k d.targets.reserved d.targets.entries) d.targets.entries ≡ Some e → IsStuck d k e
+    pub is_stuck : (e : Entry) → NoneGoes k d.targets.reserved d.targets.entries → find (must_yield k d.targets.reserved d.targets.entries) d.targets.entries ≡ Some e → IsStuck d least k e
     is_stuck e none found =
         let yields = find_passes (must_yield k d.targets.reserved d.targets.entries) d.targets.entries e found in
         record {
@@ -98,11 +98,11 @@ module _ (d : Directed) (valid : IsHandover d.targets) (least : Least) (gives : 
           each_waits = each_of_them_waits none;
           all_full = all_are_full;
           ring = (both_of (blocks k d.targets.reserved d.targets.entries e) (in_ring k d.targets.reserved d.targets.entries e) yields).1;
-          full = find_among (must_yield k d.targets.reserved d.targets.entries) (λ a. must_yield k d.targets.reserved d.targets.entries a ≡ true → IsFull d k a) d.targets.entries e all_are_full found yields;
+          full = find_among (must_yield k d.targets.reserved d.targets.entries) (λ a. must_yield k d.targets.reserved d.targets.entries a ≡ true → IsFull d least k a) d.targets.entries e all_are_full found yields;
         }
 
   -- one that steps aside has CPUs of its own then
-  aside_has_own : (e : Entry) → steps_aside k d.targets.reserved d.targets.entries (allowed_of d) e ≡ true
+  aside_has_own : (e : Entry) → steps_aside k d.targets.reserved d.targets.entries (allowed_of d) least e ≡ true
       → has_own d.targets.reserved (aside k d.targets.reserved d.targets.entries (allowed_of d) least e) ≡ true
   aside_has_own e passes = by_test (has_own d.targets.reserved (aside k d.targets.reserved d.targets.entries (allowed_of d) least e)) (λ own. own)
       (λ none. absurd (false≢true (by_test (has_room k d.targets.reserved d.targets.entries e)
@@ -110,8 +110,8 @@ module _ (d : Directed) (valid : IsHandover d.targets) (least : Least) (gives : 
       (λ q m. none_own d.targets.reserved (aside k d.targets.reserved d.targets.entries (allowed_of d) least e) none q
       (union_left (way k d.targets.reserved d.targets.entries e) (extra d valid least gives k e) q (in_meet (way k d.targets.reserved d.targets.entries e) k.tree.online q m).0))) ∙ room)
       (λ no_room. sym (extra_some d valid least gives k e no_room
-      (no_more (is_empty (places k d.targets.reserved d.targets.entries (allowed_of d e) e))
-      (place e.pinned (must_yield k d.targets.reserved d.targets.entries e) (has_room k d.targets.reserved d.targets.entries e) (has_place k d.targets.reserved d.targets.entries (allowed_of d) e) no_room passes)))
+      (no_more (is_empty (least (places k d.targets.reserved d.targets.entries (allowed_of d e) e) 1))
+      (place e.pinned (must_yield k d.targets.reserved d.targets.entries e) (has_room k d.targets.reserved d.targets.entries e) (has_place k d.targets.reserved d.targets.entries (allowed_of d) least e) no_room passes)))
       ∙ is_empty-empty (extra d valid least gives k e) (empty_of_none (extra d valid least gives k e) (λ q from. by_test (set.contains (extra d valid least gives k e) q)
       (λ m. absurd (false≢true (sym (of_spare d valid least gives k e q (extra_within d valid least gives k e q m)).1
       ∙ none_own d.targets.reserved (aside k d.targets.reserved d.targets.entries (allowed_of d) least e) none q
@@ -131,36 +131,36 @@ module _ (d : Directed) (valid : IsHandover d.targets) (least : Least) (gives : 
     abbrev pub after : KernelState
     after = written old (Some (write_of e cpus))
 
-    of_it : ((a : Entry) → a ≡ e → held after a ≡ cpus → IsSqueezed d.targets.reserved old after a → IsStuck d old a) → SqueezesOnlyStuck d old after
+    of_it : ((a : Entry) → a ≡ e → held after a ≡ cpus → IsSqueezed d.targets.reserved old after a → IsStuck d least old a) → SqueezesOnlyStuck d least old after
     of_it stuck =
-        all_map (Left old after e cpus) (λ a. IsSqueezed d.targets.reserved old after a → IsStuck d old a) one d.targets.entries
+        all_map (Left old after e cpus) (λ a. IsSqueezed d.targets.reserved old after a → IsStuck d least old a) one d.targets.entries
         (all_left old after e cpus (is_write old e.group cpus (find_among test (λ a. IsPlaced old a.group) d.targets.entries e placed found).there) test d.targets.entries valid.groups found)
       where
-        one : (a : Entry) → Left old after e cpus a → IsSqueezed d.targets.reserved old after a → IsStuck d old a
+        one : (a : Entry) → Left old after e cpus a → IsSqueezed d.targets.reserved old after a → IsStuck d least old a
         one a (inl p) is = stuck a p.0 p.1 is
         one a (inr p) is = absurd (false≢true (sym is.has ∙ ap (has_own d.targets.reserved) p ∙ is.had))
 
   -- which was stuck
-  by_write : (w : Write) → Direct d least old (Some w) → SqueezesOnlyStuck d old (written old (Some w))
+  by_write : (w : Write) → Direct d least old (Some w) → SqueezesOnlyStuck d least old (written old (Some w))
   by_write w (cases.Takes test e found takes) = of_it test e e.target found
       (λ a is has squeezed. absurd (false≢true (sym squeezed.way ∙ (is_same_decides _ _).1 (has ∙ ap (λ (x : Entry). x.target) (sym is)))))
   by_write w (cases.Shares e none found) = of_it (shares old d.targets.reserved d.targets.entries) e (shared_way old d.targets.reserved d.targets.entries e) found
       (λ a is has squeezed. absurd (false≢true (sym (ap not (ap (λ (x : Entry). x.pinned) (sym is) ∙ squeezed.pinned))
       ∙ (both_of (not e.pinned) (must_yield old d.targets.reserved d.targets.entries e) (find_passes (shares old d.targets.reserved d.targets.entries) d.targets.entries e found)).0)))
-  by_write w (cases.StepsAside e none no_share found) = of_it (steps_aside old d.targets.reserved d.targets.entries (allowed_of d)) e (aside old d.targets.reserved d.targets.entries (allowed_of d) least e) found
+  by_write w (cases.StepsAside e none no_share found) = of_it (steps_aside old d.targets.reserved d.targets.entries (allowed_of d) least) e (aside old d.targets.reserved d.targets.entries (allowed_of d) least e) found
       (λ a is has squeezed. absurd (false≢true (sym squeezed.has ∙ ap (has_own d.targets.reserved) has
-      ∙ aside_has_own d valid least gives old e (find_passes (steps_aside old d.targets.reserved d.targets.entries (allowed_of d)) d.targets.entries e found))))
+      ∙ aside_has_own d valid least gives old e (find_passes (steps_aside old d.targets.reserved d.targets.entries (allowed_of d) least) d.targets.entries e found))))
   by_write w (cases.IsSqueezed e none no_share no_aside found) = of_it (must_yield old d.targets.reserved d.targets.entries) e (squeezed old d.targets.reserved d.targets.entries e) found
-      (λ a is has squeezed. subst (IsStuck d old) (sym is) (is_stuck d valid least gives old no_share no_aside e none found))
+      (λ a is has squeezed. subst (IsStuck d least old) (sym is) (is_stuck d valid least gives old no_share no_aside e none found))
 
-  none_squeezed : (new : KernelState) → ((a : Entry) → held new a ≡ held old a) → SqueezesOnlyStuck d old new
-  none_squeezed new same = all_of (λ a. IsSqueezed d.targets.reserved old new a → IsStuck d old a)
+  none_squeezed : (new : KernelState) → ((a : Entry) → held new a ≡ held old a) → SqueezesOnlyStuck d least old new
+  none_squeezed new same = all_of (λ a. IsSqueezed d.targets.reserved old new a → IsStuck d least old a)
       (λ a is. absurd (false≢true (sym is.has ∙ ap (has_own d.targets.reserved) (same a) ∙ is.had))) d.targets.entries
 
-  by_due : (o : Option Write) → Direct d least old o → SqueezesOnlyStuck d old (written old o)
+  by_due : (o : Option Write) → Direct d least old o → SqueezesOnlyStuck d least old (written old o)
   by_due None direct = none_squeezed old (λ a. refl)
   by_due (Some w) direct = by_write w direct
 
-  pub step_squeezes : (new : KernelState) (r : Result Progress KernelFault) → StepsDirectly d least old r new → SqueezesOnlyStuck d old new
-  step_squeezes new (Ok answer) s = subst (SqueezesOnlyStuck d old) (sym s.0) (by_due (due_directly d least old) (direct_is d least old))
-  step_squeezes new (Err fault) s = subst (SqueezesOnlyStuck d old) (sym s.1) (none_squeezed (failed old) (λ a. refl))
+  pub step_squeezes : (new : KernelState) (r : Result Progress KernelFault) → StepsDirectly d least old r new → SqueezesOnlyStuck d least old new
+  step_squeezes new (Ok answer) s = subst (SqueezesOnlyStuck d least old) (sym s.0) (by_due (due_directly d least old) (direct_is d least old))
+  step_squeezes new (Err fault) s = subst (SqueezesOnlyStuck d least old) (sym s.1) (none_squeezed (failed old) (λ a. refl))

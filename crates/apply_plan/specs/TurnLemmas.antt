@@ -88,10 +88,10 @@ none_guards k reserved entries none =
 
 -- what one is allowed decides whether it steps aside, and where to
 module _ (k : KernelState) (reserved : Ids) (entries : List Entry) (f g : Entry → Ids) (e : Entry) (same : f e ≡ g e) where
-  pub gives_alike : (giving : Giving) → gives_by k reserved entries f giving e ≡ gives_by k reserved entries g giving e
-  gives_alike Sharing = refl
-  gives_alike Aside = ap (λ s. e.pinned && (must_yield k reserved entries e && (has_room k reserved entries e || not (set.len (places k reserved entries s e) == 0)))) same
-  gives_alike Squeezed = refl
+  pub gives_alike : (least : Least) (giving : Giving) → gives_by k reserved entries f least giving e ≡ gives_by k reserved entries g least giving e
+  gives_alike least Sharing = refl
+  gives_alike least Aside = ap (λ s. e.pinned && (must_yield k reserved entries e && (has_room k reserved entries e || not (set.len (least (places k reserved entries s e) 1) == 0)))) same
+  gives_alike least Squeezed = refl
 
   pub gets_alike : (least : Least) (giving : Giving) → gets_by k reserved entries f least giving e ≡ gets_by k reserved entries g least giving e
   gets_alike least Sharing = refl

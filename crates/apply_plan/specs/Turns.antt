@@ -39,10 +39,10 @@ module _ (k : KernelState) (reserved : Ids) (entries : List Entry) where
 
   module _ (allowed : Entry → Ids) where
     -- whether it is its turn to give way
-    abbrev pub gives_by : Giving → Entry → Bool
-    gives_by Sharing e = shares k reserved entries e
-    gives_by Aside e = steps_aside k reserved entries allowed e
-    gives_by Squeezed e = must_yield k reserved entries e
+    abbrev pub gives_by : Least → Giving → Entry → Bool
+    gives_by least Sharing e = shares k reserved entries e
+    gives_by least Aside e = steps_aside k reserved entries allowed least e
+    gives_by least Squeezed e = must_yield k reserved entries e
 
     -- what it gets whose turn it is to give way
     abbrev pub gets_by : Least → Giving → Entry → Ids

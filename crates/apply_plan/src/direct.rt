@@ -115,7 +115,7 @@ fn way_of_pinned<K: Kernel, C: Cores>(
     requires valid { IsHandover (record { entries = entries.now; reserved = reserved.now }) }
     requires seen { IsOverview (K.state kernel.now) reserved.now entries.now seen.now }
     requires nexts { AreNexts (K.state kernel.now) reserved.now entries.now nexts.now }
-    ensures { result ≡ first_due (gets (steps_aside (K.state kernel.now) reserved.now entries.now (allowed_in entries.now allowed.now))
+    ensures { result ≡ first_due (gets (steps_aside (K.state kernel.now) reserved.now entries.now (allowed_in entries.now allowed.now) (C.least_of cores.now))
         (aside (K.state kernel.now) reserved.now entries.now (allowed_in entries.now allowed.now) (C.least_of cores.now)) entries.now
         ∷ gets (must_yield (K.state kernel.now) reserved.now entries.now) (squeezed (K.state kernel.now) reserved.now entries.now)
         entries.now ∷ []) }
@@ -160,7 +160,7 @@ fn way_given<K: Kernel, C: Cores>(
     requires nexts { AreNexts (K.state kernel.now) reserved.now entries.now nexts.now }
     ensures { result ≡ first_due (gets (shares (K.state kernel.now) reserved.now entries.now)
         (shared_way (K.state kernel.now) reserved.now entries.now) entries.now
-        ∷ gets (steps_aside (K.state kernel.now) reserved.now entries.now (allowed_in entries.now allowed.now))
+        ∷ gets (steps_aside (K.state kernel.now) reserved.now entries.now (allowed_in entries.now allowed.now) (C.least_of cores.now))
         (aside (K.state kernel.now) reserved.now entries.now (allowed_in entries.now allowed.now) (C.least_of cores.now)) entries.now
         ∷ gets (must_yield (K.state kernel.now) reserved.now entries.now) (squeezed (K.state kernel.now) reserved.now entries.now)
         entries.now ∷ []) }
@@ -199,7 +199,7 @@ fn given_or_grown<K: Kernel, C: Cores>(
     requires room { length nexts.old ≡ length entries.now }
     ensures due { result ≡ first_due (gets (shares (K.state kernel.now) reserved.now entries.now)
         (shared_way (K.state kernel.now) reserved.now entries.now) entries.now
-        ∷ gets (steps_aside (K.state kernel.now) reserved.now entries.now (allowed_in entries.now allowed.now))
+        ∷ gets (steps_aside (K.state kernel.now) reserved.now entries.now (allowed_in entries.now allowed.now) (C.least_of cores.now))
         (aside (K.state kernel.now) reserved.now entries.now (allowed_in entries.now allowed.now) (C.least_of cores.now)) entries.now
         ∷ gets (must_yield (K.state kernel.now) reserved.now entries.now) (squeezed (K.state kernel.now) reserved.now entries.now)
         entries.now ∷ gets (may_take (K.state kernel.now) reserved.now entries.now) (λ e. e.target) entries.now ∷ []) }

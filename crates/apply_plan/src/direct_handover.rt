@@ -183,7 +183,7 @@ impl DirectHandover {
         ensures on_way { (first : KernelState) → AreOnWay self.old first (K.state kernel.old)
             → AreOnWay self.old first (K.state kernel.new) }
         // One is put on the reserved CPUs alone only where it stands in a ring of which nobody can give way otherwise.
-        ensures squeezes { SqueezesOnlyStuck self.old (K.state kernel.old) (K.state kernel.new) }
+        ensures squeezes { SqueezesOnlyStuck self.old (C.least_of cores.now) (K.state kernel.old) (K.state kernel.new) }
         // A failure is counted.
         ensures counted { (K.state kernel.new).failures ≡ (K.state kernel.old).failures + rise result }
         // Nothing else in the kernel changes.

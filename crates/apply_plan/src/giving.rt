@@ -5,7 +5,7 @@ ghost use Rattle.cpuset_tree.specs.Groups.{has_group};
 ghost use Rattle.apply_plan.specs.Targets.{IsHandover, ArePlaced};
 ghost use Rattle.apply_plan.specs.DirectWords.{blocks, way, places};
 ghost use Rattle.apply_plan.specs.Directed.{allowed_in};
-ghost use Rattle.apply_plan.specs.DirectWrite.{must_yield, has_room, shared_way, aside, gets};
+ghost use Rattle.apply_plan.specs.DirectWrite.{must_yield, has_room, has_place, shared_way, aside, gets};
 ghost use Rattle.apply_plan.specs.Overviews.{IsOverview};
 ghost use Rattle.apply_plan.specs.NextTables.{AreNexts};
 ghost use Rattle.apply_plan.specs.Turns.{IsIn, gives_by, gets_by};
@@ -107,9 +107,17 @@ fn must_yield<K: Kernel>(
     blocks(kernel, reserved, entries, seen, entry) && stands_in_ring(nexts, place)
 }
 
+/// Whether a container has a place: whether one can be given of these, so where cores are given, the whole of a core.
+fn has_place<C: Cores>(cores: &C, places: &IdSet) -> bool
+    ensures { result ≡ not (is_empty (C.least_of cores.now places.now 1)) }
+{
+    !cores.least(places, 1).is_empty()
+}
+
 /// Whether a container has an online CPU of its own on its way, or a place.
-fn has_either<K: Kernel>(
+fn has_either<K: Kernel, C: Cores>(
     kernel: &K,
+    cores: &C,
     reserved: &IdSet,
     entries: &[Entry],
     seen: &Overview,
@@ -121,17 +129,21 @@ fn has_either<K: Kernel>(
     requires at { IsIn entries.now entry.now }
     requires seen { IsOverview (K.state kernel.now) reserved.now entries.now seen.now }
     ensures { result ≡ (has_room (K.state kernel.now) reserved.now entries.now entry.now
-        || not (is_empty (places (K.state kernel.now) reserved.now entries.now allowed.now entry.now))) }
+        || has_place (K.state kernel.now) reserved.now entries.now (λ _. allowed.now) (C.least_of cores.now) entry.now) }
 {
     !way(kernel, reserved, entries, seen, entry)
         .meet(&kernel.online())
         .is_subset(reserved)
-        || !places(kernel, reserved, entries, seen, allowed, entry).is_empty()
+        || has_place(
+            cores,
+            &places(kernel, reserved, entries, seen, allowed, entry),
+        )
 }
 
 /// Whether it is a container's turn to give way.
-fn gives<K: Kernel>(
+fn gives<K: Kernel, C: Cores>(
     kernel: &K,
+    cores: &C,
     reserved: &IdSet,
     entries: &[Entry],
     seen: &Overview,
@@ -147,7 +159,8 @@ fn gives<K: Kernel>(
     requires at { entry.now ≡ get_or entries.now place entry.now }
     requires seen { IsOverview (K.state kernel.now) reserved.now entries.now seen.now }
     requires nexts { AreNexts (K.state kernel.now) reserved.now entries.now nexts.now }
-    ensures { result ≡ gives_by (K.state kernel.now) reserved.now entries.now (λ _. allowed.now) giving entry.now }
+    ensures { result ≡ gives_by (K.state kernel.now) reserved.now entries.now (λ _. allowed.now) (C.least_of cores.now) giving
+        entry.now }
 {
     match giving {
         Giving::Sharing => {
@@ -156,7 +169,7 @@ fn gives<K: Kernel>(
         Giving::Aside => {
             entry.pinned
                 && must_yield(kernel, reserved, entries, seen, nexts, place, entry)
-                && has_either(kernel, reserved, entries, seen, allowed, entry)
+                && has_either(kernel, cores, reserved, entries, seen, allowed, entry)
         }
         Giving::Squeezed => must_yield(kernel, reserved, entries, seen, nexts, place, entry),
     }
@@ -259,14 +272,14 @@ pub fn first_giving<K: Kernel, C: Cores>(
     requires valid { IsHandover (record { entries = entries.now; reserved = reserved.now }) }
     requires seen { IsOverview (K.state kernel.now) reserved.now entries.now seen.now }
     requires nexts { AreNexts (K.state kernel.now) reserved.now entries.now nexts.now }
-    ensures { result ≡ gets (gives_by (K.state kernel.now) reserved.now entries.now (allowed_in entries.now allowed.now) giving)
+    ensures { result ≡ gets (gives_by (K.state kernel.now) reserved.now entries.now (allowed_in entries.now allowed.now) (C.least_of cores.now) giving)
         (gets_by (K.state kernel.now) reserved.now entries.now (allowed_in entries.now allowed.now) (C.least_of cores.now) giving)
         entries.now }
 {
     for (place, entry) in entries.iter().enumerate() {
         let own = allowed_at(allowed, place);
         if gives(
-            kernel, reserved, entries, seen, nexts, &own, giving, place, entry,
+            kernel, cores, reserved, entries, seen, nexts, &own, giving, place, entry,
         ) {
             return Some(Write {
                 group: entry.group,

@@ -6,12 +6,13 @@ ghost use Rattle.apply_plan.specs.DueWrite.{due};
 ghost use Rattle.apply_plan.specs.Runs.{StaysSafe, StaysBetween, EndsWithin, FewToCome};
 ghost use Rattle.apply_plan.specs.OneStep.{StepsLeave};
 ghost use Rattle.apply_plan.specs.MayWrite.{EachLowers, FewLeft};
+ghost use Rattle.apply_plan.specs.DirectOneStep.{DirectStepsLeave};
 ghost use Rattle.apply_plan.specs.DirectRuns.{StaysSafeDirectly, StaysOnWay, EndsDirectly};
 ghost use Rattle.apply_plan.specs.Effects.{TargetsTakeEffect, SafeInEffect};
 ghost use Rattle.apply_plan.specs.DirectWords.{is_rival, may_take, asks, blocks, asked, places, way};
 ghost use Rattle.apply_plan.specs.Rings.{in_ring};
 ghost use Rattle.apply_plan.specs.DirectWrite.{due_directly};
-ghost use Rattle.apply_plan.specs.DirectWorked.{moving_to, beside_shared, third_offline, whole, gives, has_only, first_of_two, second_of_two};
+ghost use Rattle.apply_plan.specs.DirectWorked.{moving_to, beside_shared, third_offline, whole, halved, gives, has_only, first_of_two, second_of_two};
 ghost use Rattle.apply_plan.specs.Worked.{swap, both_live, one_lives, write};
 
 /// Any list of events while a hand-over is open. An event is a step of it, a failing one too, a fork or an end of a
@@ -74,11 +75,17 @@ pub fn direct_runs()
     ensures ends { EndsDirectly }
 {}
 
+/// What one step leaves while a direct hand-over is open, of plain values: what [`crate::DirectHandover::step`] says.
+pub fn direct_steps()
+    ensures { DirectStepsLeave }
+{}
+
 /// Small direct hand-overs of two containers, each row evaluated from what they request then.
 ///
-/// Two that want each other's CPU stand in a ring. The first steps aside onto a spare CPU, its place; where that is
-/// offline it is squeezed onto the reserved CPU. One that keeps a CPU of its own gives way with no place. A shared
-/// one lets go first of what a pinned one asks of it. Nobody waits for one that has ended.
+/// Two that want each other's CPU stand in a ring. The first steps aside onto a spare CPU, its place. Where that is
+/// offline, or cores are given and it is a part of one, the first is squeezed onto the reserved CPU. One that keeps a
+/// CPU of its own gives way with no place. A shared one lets go first of what a pinned one asks of it. Nobody waits for
+/// one that has ended.
 pub fn worked_directly()
     ensures rival { is_rival (both_live (1 ∷ []) (2 ∷ [])) (first_of_two (2 ∷ [])) (second_of_two (1 ∷ [])) ≡ true }
     ensures not_free { may_take (both_live (1 ∷ []) (2 ∷ [])) (moving_to (2 ∷ []) (1 ∷ [])).targets.reserved
@@ -100,6 +107,7 @@ pub fn worked_directly()
     ensures first_takes { gives (due_directly (moving_to (2 ∷ []) (1 ∷ [])) whole (both_live (3 ∷ []) (1 ∷ []))) web (2 ∷ []) ≡ true }
     ensures done { due_directly (moving_to (2 ∷ []) (1 ∷ [])) whole (both_live (2 ∷ []) (1 ∷ [])) ≡ None }
     ensures squeezed { gives (due_directly (moving_to (2 ∷ []) (1 ∷ [])) whole (third_offline (1 ∷ []) (2 ∷ []))) web (0 ∷ []) ≡ true }
+    ensures half_a_core { gives (due_directly (moving_to (2 ∷ []) (1 ∷ [])) halved (both_live (1 ∷ []) (2 ∷ []))) web (0 ∷ []) ≡ true }
     ensures full { gives (due_directly (moving_to (3 ∷ 4 ∷ []) (1 ∷ 2 ∷ [])) whole (both_live (1 ∷ 2 ∷ []) (3 ∷ 4 ∷ []))) web (0 ∷ []) ≡ true }
     ensures keeps_one { gives (due_directly (moving_to (2 ∷ 3 ∷ []) (1 ∷ 4 ∷ [])) whole (both_live (1 ∷ 2 ∷ []) (3 ∷ 4 ∷ []))) web (2 ∷ []) ≡ true }
     ensures shared_first { gives (due_directly (beside_shared (2 ∷ []) (0 ∷ 3 ∷ [])) whole (both_live (1 ∷ []) (0 ∷ 2 ∷ 3 ∷ []))) batch

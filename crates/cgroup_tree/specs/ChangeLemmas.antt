@@ -1,6 +1,6 @@
 -- Folders that are made and removed, and what the files of the others have.
 use Rattle.std.proofs.Common.{◌≡◌, ℕ, zero, suc, ◌<◌, Bool, true, false, refl, sym, ap, ◌∙◌, subst, arith}
-use Rattle.std.specs.Prelude.{List, ◌∷◌, ◌++◌, length, drop, Option, Some, None, is_some, ◌||◌, if◌then◌else◌}
+use Rattle.std.specs.Prelude.{List, [], ◌∷◌, ◌++◌, length, drop, Option, Some, None, is_some, ◌||◌, if◌then◌else◌}
 use Rattle.std.specs.Str.{bytes_eq}
 use Rattle.std.proofs.lemmas.Bool.{both_ways, false_from_ne_true}
 use Rattle.std.proofs.lemmas.List.{append_assoc, append_cancel_left}
@@ -17,7 +17,8 @@ use Rattle.cpuset_tree.specs.TreeLaws.{GroupAdded}
 use Rattle.cpuset_tree.specs.TreeLemmas.{added_leaves, removed_leaves, parent_is_there, serial_is_given}
 use Rattle.cpuset_tree.specs.TreeWellFormed.{IsWellFormed}
 use Rattle.cgroup_tree.specs.Asked.{Made, Removed, Unmade, Written, Compared, Asked, done}
-use Rattle.cgroup_tree.specs.Paths.{folder, folder_at, folder_within, below, cpus_file, mems_file, controls_file, controls_line}
+use Rattle.cgroup_tree.specs.Mirrored.{looks_behind}
+use Rattle.cgroup_tree.specs.Paths.{folder, folder_at, folder_within, below, cpus_file, mems_file, partition_file, partition_line, controls_file, controls_line}
 use Rattle.cgroup_tree.specs.FolderLemmas.{older, folder_below}
 use Rattle.cgroup_tree.specs.ApartLemmas.{there_in, one_split, entry_placed}
 use Rattle.cgroup_tree.specs.Standing.{text_in, IsLineOf, IsMemsLineOf, StandsFor, AreApart, FoldersStand}
@@ -186,6 +187,13 @@ looked root memory s path line calls stands = record {
   cpus = λ h placed. rw (compared_nowhere calls path line (root ++ (folder s h ++ cpus_file))) (stands.cpus h placed);
   mems = λ h placed. rw (compared_nowhere calls path line (root ++ (folder s h ++ mems_file))) (stands.mems h placed);
 }
+
+-- the files that are looked at behind a write
+pub looked_behind : (partition : Bool) (root : List ℕ) (memory : Ids) (s : TreeState) (path line : List ℕ) (write : Asked) (calls : List Asked) → StandsFor root memory s (write ∷ calls)
+    → StandsFor root memory s ((looks_behind partition root (Compared path line) ++ write ∷ []) ++ calls)
+looked_behind false root memory s path line write calls stands = looked root memory s path line (write ∷ calls) stands
+looked_behind true root memory s path line write calls stands =
+    looked root memory s (root ++ partition_file) partition_line (done (Compared path line) ∷ write ∷ calls) (looked root memory s path line (write ∷ calls) stands)
 
 -- the controllers that are passed on
 pub passed_on : (root : List ℕ) (memory : Ids) (s : TreeState) (parent : Group) (calls : List Asked) → StandsFor root memory s calls

@@ -1,5 +1,5 @@
 -- What was called of a mirrored kernel, and what each call asked of the files.
-use Rattle.std.specs.Prelude.{◌≡◌, ◌⊎◌, ℕ, List, [], ◌∷◌, ◌++◌, Option, Some, None, Result, Ok, Err}
+use Rattle.std.specs.Prelude.{◌≡◌, ◌⊎◌, ℕ, Bool, List, [], ◌∷◌, ◌++◌, Option, Some, None, Result, Ok, Err}
 use Rattle.faults.specs.declared.or_memory.OrMemory.{OrMemory}
 use Rattle.faults.specs.declared.or_memory.OrMemory.TheVariants.{Memory, Fault}
 use Rattle.cpu_set.specs.Ids.{Ids}
@@ -13,7 +13,7 @@ use Rattle.kernel_model.specs.WellFormed.{IsWellFormed}
 use Rattle.kernel_model.specs.Cases.{MakesGroup, RemovesGroup, WritesCpus, WritesMems, Spawns, EndsGroup, Forks, Exits, GoesOffline, ComesOnline}
 use Rattle.cgroup_tree.specs.Asked.{Deed, Made, Removed, Unmade, Written, Compared, Asked, Opening, done, refused}
 use Rattle.cgroup_tree.specs.Paths.{folder, below, list_line, cpus_file, cpus_in_effect, mems_file, kill_file, controls_file, kill_line, controls_line}
-use Rattle.cgroup_tree.specs.Mirrored.{IsNamed}
+use Rattle.cgroup_tree.specs.Mirrored.{IsNamed, looks_behind}
 use Rattle.cgroup_tree.specs.Site.{Begins, Site, opening}
 
 -- a call, with what it answered
@@ -54,11 +54,11 @@ abbrev pub IsAskedAt : {P A : Type 0} → Option P → Deed → Result A KernelF
 IsAskedAt None deed answer these = these ≡ []
 IsAskedAt (Some place) deed answer these = IsAsked deed answer these
 
--- of a write of CPUs: behind it what is in effect is looked at
-abbrev pub AreAskedAndLooked : {A : Type 0} → (write look : Deed) → Result A KernelFault → List Asked → Type 0
-AreAskedAndLooked write look (Ok value) these = these ≡ done look ∷ done write ∷ []
-AreAskedAndLooked write look (Err Failed) these = these ≡ refused write ∷ []
-AreAskedAndLooked write look (Err fault) these = these ≡ []
+-- of a write of CPUs, behind which these looks are taken
+abbrev pub AreAskedAndLooked : {A : Type 0} → (write : Deed) → (looks : List Asked) → Result A KernelFault → List Asked → Type 0
+AreAskedAndLooked write looks (Ok value) these = these ≡ looks ++ done write ∷ []
+AreAskedAndLooked write looks (Err Failed) these = these ≡ refused write ∷ []
+AreAskedAndLooked write looks (Err fault) these = these ≡ []
 
 -- of a new group: the first and then the second, and the third where its allocation in the model failed
 abbrev pub AreAsked : {A : Type 0} → Deed → Deed → Deed → Result A (OrMemory KernelFault) → List Asked → Type 0
@@ -68,20 +68,22 @@ AreAsked first then undone (Err Memory) these =
 AreAsked first then undone (Err (Fault Failed)) these = (these ≡ refused then ∷ done first ∷ []) ⊎ (these ≡ refused first ∷ []) ⊎ (these ≡ [])
 AreAsked first then undone (Err (Fault fault)) these = these ≡ []
 
--- where the root group's folder is this, and these nodes have memory
-module _ (root : List ℕ) (memory : Ids) where
+-- where the root group's folder is this, these nodes have memory, and the root has to be a partition root or not
+module _ (root : List ℕ) (memory : Ids) (partition : Bool) where
   -- the file of a group, or its folder
   abbrev pub file_of : KernelState → Group → List ℕ → List ℕ
   file_of k g file = root ++ (folder k.tree g ++ file)
 
-  -- what a call asks of the files, by its answer; behind a write of CPUs they are compared with what the group has in effect then
+  -- what a call asks of the files, by its answer; behind a write of CPUs they are compared with what the group has in effect then,
+  -- and the root's partition file with `root` if the root has to be a partition root
   abbrev pub AsksFor : KernelState → Event → KernelState → List Asked → Type 0
   AsksFor k (MadeGroup parent name r) new these =
       AreAsked (Written (file_of k parent controls_file) controls_line) (Made (file_of k parent (below name))) (Unmade (file_of k parent (below name))) r these
       × IsNamed name r
   AsksFor k (RemovedGroup g r) new these = IsAsked (Removed (file_of k g [])) r these
   AsksFor k (WroteCpus g cpus r) new these =
-      AreAskedAndLooked (Written (file_of k g cpus_file) (list_line cpus)) (Compared (file_of new g cpus_in_effect) (list_line (effective_cpus new.tree g))) r these
+      AreAskedAndLooked (Written (file_of k g cpus_file) (list_line cpus))
+      (looks_behind partition root (Compared (file_of new g cpus_in_effect) (list_line (effective_cpus new.tree g)))) r these
   AsksFor k (WroteMems g mems r) new these = IsAsked (Written (file_of k g mems_file) (list_line (granted mems memory))) r these
   AsksFor k (EndedGroup g r) new these = IsAskedAt (place_of k.tree g) (Written (file_of k g kill_file) kill_line) r these
   AsksFor k event new these = these ≡ []
@@ -97,7 +99,7 @@ module _ (site : Site) where
   Past [] k asked = IsNew k × (asked ≡ [])
   Past (event ∷ past) k asked =
       (old : KernelState) × (before : List Asked) × (these : List Asked)
-      × Past past old before × Happens old event k × AsksFor site.root site.memory old event k these × (asked ≡ these ++ before)
+      × Past past old before × Happens old event k × AsksFor site.root site.memory site.partition old event k these × (asked ≡ these ++ before)
 
 -- all that was asked of the files is what the calls of the kernel stand for, in their order, from its beginning on. The files
 -- are opened so, and keep other programs from the root.
@@ -107,8 +109,9 @@ pub record IsMirrored {F : Type 0} (asked : F → Opening → List Asked → Typ
   pub was : Past site past k calls
   pub made : asked files (opening site) calls
 
--- a mirrored kernel that has this root and these nodes with memory
-pub record IsMirroredAt {F : Type 0} (asked : F → Opening → List Asked → Type 0) (site : Site) (root : List ℕ) (memory : Ids) (k : KernelState) (files : F) : Type 0 where
+-- a mirrored kernel that has this root, these nodes with memory, and a root that has to be a partition root or not
+pub record IsMirroredAt {F : Type 0} (asked : F → Opening → List Asked → Type 0) (site : Site) (root : List ℕ) (memory : Ids) (partition : Bool) (k : KernelState) (files : F) : Type 0 where
   pub mirrored : IsMirrored asked site k files
   pub root_is : root ≡ site.root
   pub memory_is : memory ≡ site.memory
+  pub partition_is : partition ≡ site.partition

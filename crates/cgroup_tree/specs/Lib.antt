@@ -15,6 +15,7 @@ pub mod Events
 pub mod Stands
 pub mod PastLemmas
 pub mod MirroredLemmas
+pub mod Partitions
 pub mod Room
 pub mod RoomLemmas
 pub mod LineLemmas

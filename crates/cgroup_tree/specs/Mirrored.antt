@@ -1,12 +1,12 @@
 -- A kernel whose writes are asked of files too.
-use Rattle.std.specs.Prelude.{⊤, ℕ, ◌+◌, List, [], ◌∷◌, ◌⊎◌, Option, Some, None, Result, Ok, Err}
+use Rattle.std.specs.Prelude.{⊤, ℕ, ◌+◌, Bool, true, false, List, [], ◌∷◌, ◌++◌, ◌⊎◌, Option, Some, None, Result, Ok, Err}
 use Rattle.faults.specs.declared.OrMemory.{OrMemory}
 use Rattle.faults.specs.declared.OrMemory.TheVariants.{Memory, Fault}
 use Rattle.kernel_model.specs.declared.KernelFault.{KernelFault}
 use Rattle.kernel_model.specs.declared.KernelFault.TheVariants.{Failed}
 use Rattle.kernel_model.specs.KernelState.{KernelState}
-use Rattle.cgroup_tree.specs.Asked.{Deed, Asked, done, refused, Asks}
-use Rattle.cgroup_tree.specs.Paths.{IsName}
+use Rattle.cgroup_tree.specs.Asked.{Deed, Compared, Asked, done, refused, Asks}
+use Rattle.cgroup_tree.specs.Paths.{IsName, partition_file, partition_line}
 
 -- the model, with as many writes and failures more as were refused by the files and never came to the model
 abbrev pub mirrored : ℕ → KernelState → KernelState
@@ -16,6 +16,12 @@ mirrored n k = record k { failures = k.failures + n; writes = k.writes + n }
 abbrev pub IsNamed : {A : Type 0} → List ℕ → Result A (OrMemory KernelFault) → Type 0
 IsNamed name (Err (Fault fault)) = ⊤
 IsNamed name answer = IsName name
+
+-- what is looked at behind a write of CPUs, the newest first: what the group has in effect; and whether the root is a partition
+-- root, if it has to be one
+abbrev pub looks_behind : (partition : Bool) → (root : List ℕ) → (look : Deed) → List Asked
+looks_behind false root look = done look ∷ []
+looks_behind true root look = done (Compared (root ++ partition_file) partition_line) ∷ done look ∷ []
 
 module _ {F H : Type 0} (asked : F → H → List Asked → Type 0) (old : F) where
   -- this alone was asked for, and done, or refused
@@ -41,11 +47,11 @@ module _ {F H : Type 0} (asked : F → H → List Asked → Type 0) (old : F) wh
   MirrorsAt None deed answer new = Asks asked old [] new
   MirrorsAt (Some place) deed answer new = Mirrors deed answer new
 
-  -- the same of a write behind which a look is taken
-  abbrev pub MirrorsLook : {A : Type 0} → (write look : Deed) → Result A KernelFault → F → Type 0
-  MirrorsLook write look (Ok value) new = Asks asked old (done look ∷ done write ∷ []) new
-  MirrorsLook write look (Err Failed) new = Asks asked old (refused write ∷ []) new
-  MirrorsLook write look (Err fault) new = Asks asked old [] new
+  -- the same of a write behind which these looks are taken
+  abbrev pub MirrorsLooks : {A : Type 0} → (write : Deed) → (looks : List Asked) → Result A KernelFault → F → Type 0
+  MirrorsLooks write looks (Ok value) new = Asks asked old (looks ++ done write ∷ []) new
+  MirrorsLooks write looks (Err Failed) new = Asks asked old (refused write ∷ []) new
+  MirrorsLooks write looks (Err fault) new = Asks asked old [] new
 
   -- a folder is made once this was done, as its parent has to pass the controller on; or the one or the other was refused
   abbrev pub TriesBoth : {A E : Type 0} → Deed → Deed → Result A E → F → Type 0

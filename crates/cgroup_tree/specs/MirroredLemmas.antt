@@ -1,5 +1,6 @@
 -- What a call of a mirrored kernel adds to what was asked of the files.
-use Rattle.std.proofs.Common.{◌≡◌, ℕ, refl, sym, ◌∙◌, subst, inl, inr}
+use Rattle.std.proofs.Common.{◌≡◌, ℕ, Bool, refl, sym, ◌∙◌, subst, inl, inr}
+use Rattle.std.proofs.lemmas.List.{append_assoc}
 use Rattle.std.specs.Prelude.{List, [], ◌∷◌, ◌++◌, Option, Some, None, Result, Ok, Err}
 use Rattle.faults.specs.declared.or_memory.OrMemory.{OrMemory}
 use Rattle.faults.specs.declared.or_memory.OrMemory.TheVariants.{Memory, Fault}
@@ -9,7 +10,7 @@ use Rattle.kernel_model.specs.declared.KernelFault.TheVariants.{Failed}
 use Rattle.kernel_model.specs.KernelState.{KernelState}
 use Rattle.kernel_model.specs.WellFormed.{IsWellFormed}
 use Rattle.cgroup_tree.specs.Asked.{Deed, Asked, Asks, Opening, done, refused}
-use Rattle.cgroup_tree.specs.Mirrored.{mirrored, Mirrors, MirrorsAt, MirrorsBoth, MirrorsLook}
+use Rattle.cgroup_tree.specs.Mirrored.{mirrored, Mirrors, MirrorsAt, MirrorsBoth, MirrorsLooks}
 use Rattle.cgroup_tree.specs.Events.{Event, Happens, IsAsked, IsAskedAt, AreAsked, AreAskedAndLooked, AsksFor, Past, IsMirrored, IsMirroredAt}
 use Rattle.cgroup_tree.specs.Site.{Beginning, Begins, Site, opening}
 use Rattle.cgroup_tree.specs.Stands.{FilesStand}
@@ -32,10 +33,11 @@ module _ {F : Type 0} (asked : F → Opening → List Asked → Type 0) (old new
   grown_at None deed r asks = record { these = []; are = refl; asks = asks }
   grown_at (Some place) deed r asks = grown deed r asks
 
-  pub grown_look : {A : Type 0} → (write look : Deed) (r : Result A KernelFault) → MirrorsLook asked old write look r new → Grown asked old (AreAskedAndLooked write look r) new
-  grown_look write look (Ok value) asks = record { these = done look ∷ done write ∷ []; are = refl; asks = asks }
-  grown_look write look (Err Failed) asks = record { these = refused write ∷ []; are = refl; asks = asks }
-  grown_look write look (Err fault) asks = record { these = []; are = refl; asks = asks }
+  pub grown_looks : {A : Type 0} → (write : Deed) (looks : List Asked) (r : Result A KernelFault) → MirrorsLooks asked old write looks r new
+      → Grown asked old (AreAskedAndLooked write looks r) new
+  grown_looks write looks (Ok value) asks = record { these = looks ++ done write ∷ []; are = refl; asks = asks }
+  grown_looks write looks (Err Failed) asks = record { these = refused write ∷ []; are = refl; asks = asks }
+  grown_looks write looks (Err fault) asks = record { these = []; are = refl; asks = asks }
 
   pub grown_both : {A : Type 0} → (first then undone : Deed) (r : Result A (OrMemory KernelFault)) → MirrorsBoth asked old first then undone r new
       → Grown asked old (AreAsked first then undone r) new
@@ -47,16 +49,22 @@ module _ {F : Type 0} (asked : F → Opening → List Asked → Type 0) (old new
   grown_both first then undone (Err (Fault Failed)) (inr (inr asks)) = record { these = []; are = inr (inr refl); asks = asks }
   grown_both first then undone (Err (Fault fault)) asks = record { these = []; are = refl; asks = asks }
 
+-- a write, and the looks behind it
+pub asks_looks : {F H : Type 0} (asked : F → H → List Asked → Type 0) (old mid new : F) (write : Deed) (looks : List Asked) → Asks asked old (done write ∷ []) mid → Asks asked mid looks new
+    → Asks asked old (looks ++ done write ∷ []) new
+asks_looks asked old mid new write looks first then how before held = rw (append_assoc looks (done write ∷ []) before) (then how (done write ∷ before) (first how before held))
+
 -- after one call more it is so too
-pub goes_on : {F : Type 0} (asked : F → Opening → List Asked → Type 0) (site : Site) (root root' : List ℕ) (memory memory' : Ids) (k new : KernelState) (files after : F) (event : Event)
-    → IsMirroredAt asked site root memory k files → root' ≡ root → memory' ≡ memory → Happens k event new
-    → Grown asked files (AsksFor root memory k event new) after → IsMirroredAt asked site root' memory' new after
+pub goes_on : {F : Type 0} (asked : F → Opening → List Asked → Type 0) (site : Site) (root root' : List ℕ) (memory memory' : Ids) (partition partition' : Bool) (k new : KernelState) (files after : F) (event : Event)
+    → IsMirroredAt asked site root memory partition k files → (root' ≡ root) × (memory' ≡ memory) × (partition' ≡ partition) → Happens k event new
+    → Grown asked files (AsksFor root memory partition k event new) after → IsMirroredAt asked site root' memory' partition' new after
 unfolding Past
-goes_on asked site root root' memory memory' k new files after event held same_root same_memory happens more =
+goes_on asked site root root' memory memory' partition partition' k new files after event held same happens more =
     let was = held.mirrored in
-    let are : AsksFor site.root site.memory k event new more.these =
-    subst (λ (r : List ℕ). AsksFor r site.memory k event new more.these) held.root_is
-    (subst (λ (m : Ids). AsksFor root m k event new more.these) held.memory_is more.are) in
+    let are : AsksFor site.root site.memory site.partition k event new more.these =
+    subst (λ (r : List ℕ). AsksFor r site.memory site.partition k event new more.these) held.root_is
+    (subst (λ (m : Ids). AsksFor root m site.partition k event new more.these) held.memory_is
+    (subst (λ (p : Bool). AsksFor root memory p k event new more.these) held.partition_is more.are)) in
     record {
       mirrored = record {
         past = event ∷ was.past;
@@ -64,8 +72,9 @@ goes_on asked site root root' memory memory' k new files after event held same_r
         was = (k, was.calls, more.these, was.was, happens, are, refl);
         made = more.asks (opening site) was.calls was.made;
       };
-      root_is = same_root ∙ held.root_is;
-      memory_is = same_memory ∙ held.memory_is;
+      root_is = same.0 ∙ held.root_is;
+      memory_is = same.1 ∙ held.memory_is;
+      partition_is = same.2 ∙ held.partition_is;
     }
 
 -- where nothing was asked
@@ -84,11 +93,11 @@ well_mirrored n k well = record {
 }
 
 -- at the beginning
-pub starts : {F : Type 0} (asked : F → Opening → List Asked → Type 0) (site : Site) (root : List ℕ) (memory : Ids) (n : ℕ) (k inner : KernelState) (files : F)
-    → k ≡ inner → n ≡ 0 → IsWellFormed inner → Begins site.first inner → root ≡ site.root → memory ≡ site.memory → asked files (opening site) []
-    → IsMirroredAt asked site root memory (mirrored n k) files
+pub starts : {F : Type 0} (asked : F → Opening → List Asked → Type 0) (site : Site) (root : List ℕ) (memory : Ids) (partition : Bool) (n : ℕ) (k inner : KernelState) (files : F)
+    → k ≡ inner → n ≡ 0 → IsWellFormed inner → Begins site.first inner → root ≡ site.root → memory ≡ site.memory → partition ≡ site.partition
+    → asked files (opening site) [] → IsMirroredAt asked site root memory partition (mirrored n k) files
 unfolding Past
-starts asked site root memory n k inner files is zero well first root_is memory_is none =
+starts asked site root memory partition n k inner files is zero well first root_is memory_is partition_is none =
     let b : Beginning = site.first in
     record {
       mirrored = record {
@@ -105,6 +114,7 @@ starts asked site root memory n k inner files is zero well first root_is memory_
       };
       root_is = root_is;
       memory_is = memory_is;
+      partition_is = partition_is;
     }
 
 pub stand : {F : Type 0} (asked : F → Opening → List Asked → Type 0) (site : Site) (k : KernelState) (files : F) → IsMirrored asked site k files
@@ -114,6 +124,6 @@ stand asked site k files was =
     record { calls = was.calls; made = was.made; stands = it.0; apart = it.1 }
 
 -- the kernel is well formed, as it was at the beginning
-pub well_at : {F : Type 0} (asked : F → Opening → List Asked → Type 0) (site : Site) (root : List ℕ) (memory : Ids) (k : KernelState) (files : F)
-    → IsMirroredAt asked site root memory k files → IsWellFormed k
-well_at asked site root memory k files held = (past_kept site held.mirrored.past k held.mirrored.calls held.mirrored.was).well
+pub well_at : {F : Type 0} (asked : F → Opening → List Asked → Type 0) (site : Site) (root : List ℕ) (memory : Ids) (partition : Bool) (k : KernelState) (files : F)
+    → IsMirroredAt asked site root memory partition k files → IsWellFormed k
+well_at asked site root memory partition k files held = (past_kept site held.mirrored.past k held.mirrored.calls held.mirrored.was).well

@@ -1,7 +1,7 @@
 -- That files stand for the tree after any calls, proved.
 use Rattle.std.proofs.Common.{◌≡◌, ℕ, suc, true, false, refl, sym, ap, ◌∙◌, subst, inl, inr}
 use Rattle.std.specs.List.{list_any}
-use Rattle.std.specs.Prelude.{◌⊎◌, List, [], ◌∷◌, ◌++◌, Option, Some, None, is_some, is_none, option_map, Result, Ok, Err, not, if◌then◌else◌}
+use Rattle.std.specs.Prelude.{◌⊎◌, Bool, List, [], ◌∷◌, ◌++◌, Option, Some, None, is_some, is_none, option_map, Result, Ok, Err, not, if◌then◌else◌}
 use Rattle.faults.specs.declared.or_memory.OrMemory.{OrMemory}
 use Rattle.faults.specs.declared.or_memory.OrMemory.TheVariants.{Memory, Fault}
 use Rattle.std.proofs.lemmas.Bool.{both_ways}
@@ -31,11 +31,11 @@ use Rattle.kernel_model.specs.Refusals.{make_refusal, write_refusal}
 use Rattle.kernel_model.specs.Cases.{MakesGroup, RemovesGroup, WritesCpus, WritesMems, EndsGroup}
 use Rattle.kernel_model.specs.WellFormed.{IsWellFormed}
 use Rattle.cgroup_tree.specs.Asked.{Deed, Asked, Made, Removed, Unmade, Written, Compared, done, refused}
-use Rattle.cgroup_tree.specs.Mirrored.{IsNamed}
+use Rattle.cgroup_tree.specs.Mirrored.{IsNamed, looks_behind}
 use Rattle.cgroup_tree.specs.Paths.{is_slash, folder, below, cpus_file, mems_file, kill_file, kill_line, controls_file, controls_line, list_line}
 use Rattle.cgroup_tree.specs.Standing.{text_in, StandsFor, HavePlainNames, AreApart}
 use Rattle.cgroup_tree.specs.StandingLemmas.{folder_same, writes_stand, places_written, places_written_mems}
-use Rattle.cgroup_tree.specs.ChangeLemmas.{folders_stand, passed_on, unmade, gone, looked, entry_left, there_left}
+use Rattle.cgroup_tree.specs.ChangeLemmas.{folders_stand, passed_on, unmade, gone, looked_behind, entry_left, there_left}
 use Rattle.cgroup_tree.specs.ApartLemmas.{plain_names_apart, one_folder_there, entry_placed, some_of}
 use Rattle.cgroup_tree.specs.Events.{Event, MadeGroup, RemovedGroup, WroteCpus, WroteMems, Spawned, EndedGroup, Forked, Exited, WentOffline, CameOnline, Happens, IsAsked, IsAskedAt, AreAsked, AreAskedAndLooked, AsksFor, IsNew, Past}
 use Rattle.cgroup_tree.specs.Site.{Site}
@@ -104,18 +104,19 @@ module _ (root : List ℕ) (memory : Ids) (old : KernelState) (before : List Ask
   part_failed t deed these same (inr none) = part_none t these same none
 
   -- a write of CPUs
-  cpus_part : (g : Group) (cpus : Ids) (r : Result (Unit {0}) KernelFault) (new : KernelState) (these : List Asked) → WritesCpus old g cpus r new
-      → (path line : List ℕ) → AreAskedAndLooked (Written (root ++ (folder old.tree g ++ cpus_file)) (list_line cpus)) (Compared path line) r these → PartOf new.tree these
-  cpus_part g cpus (Ok value) new these h path line are =
+  cpus_part : (partition : Bool) (g : Group) (cpus : Ids) (r : Result (Unit {0}) KernelFault) (new : KernelState) (these : List Asked) → WritesCpus old g cpus r new
+      → (path line : List ℕ) → AreAskedAndLooked (Written (root ++ (folder old.tree g ++ cpus_file)) (list_line cpus)) (looks_behind partition root (Compared path line)) r these
+      → PartOf new.tree these
+  cpus_part partition g cpus (Ok value) new these h path line are =
       let stands : StandsFor root memory (with_cpus old.tree g cpus) (done (Written (root ++ (folder old.tree g ++ cpus_file)) (list_line cpus)) ∷ before) =
       writes_stand.cpus root memory old.tree g cpus before apart_old (placed_free old g h.0) was.stands in
       let plain : HavePlainNames (with_cpus old.tree g cpus) = λ p q name is. was.plain p q name (sym (places_written old.tree g cpus p) ∙ is) in
       in_tree new.tree (with_cpus old.tree g cpus) these (ap tree_of h.1) (of_calls (with_cpus old.tree g cpus) these _ are (record {
-        stands = looked root memory (with_cpus old.tree g cpus) path line (done (Written (root ++ (folder old.tree g ++ cpus_file)) (list_line cpus)) ∷ before) stands;
+        stands = looked_behind partition root memory (with_cpus old.tree g cpus) path line (done (Written (root ++ (folder old.tree g ++ cpus_file)) (list_line cpus))) before stands;
         plain = plain;
       }))
-  cpus_part g cpus (Err Failed) new these h path line are = part_refused new.tree _ these (ap tree_of h) are
-  cpus_part g cpus (Err fault) new these h path line are = part_none new.tree these (ap tree_of h.1) are
+  cpus_part partition g cpus (Err Failed) new these h path line are = part_refused new.tree _ these (ap tree_of h) are
+  cpus_part partition g cpus (Err fault) new these h path line are = part_none new.tree these (ap tree_of h.1) are
 
   -- of memory nodes
   mems_part : (g : Group) (mems : Ids) (r : Result (Unit {0}) KernelFault) (new : KernelState) (these : List Asked) → WritesMems old g mems r new
@@ -248,31 +249,32 @@ module _ (root : List ℕ) (memory : Ids) (old : KernelState) (before : List Ask
   own_groups : (new : KernelState) → new.tree.groups ≡ old.tree.groups → HaveOwnNames new.tree.groups
   own_groups new same = subst (λ (gs : List GroupEntry). HaveOwnNames gs) (sym same) was.own
 
-  step : (event : Event) (new : KernelState) (these : List Asked) → Happens old event new → AsksFor root memory old event new these → Kept root memory new (these ++ before)
-  step (MadeGroup parent name r) new these h are =
+  step : (partition : Bool) (event : Event) (new : KernelState) (these : List Asked) → Happens old event new → AsksFor root memory partition old event new these
+      → Kept root memory new (these ++ before)
+  step partition (MadeGroup parent name r) new these h are =
       kept new these (make_part parent name r new these h are.0 are.1) ((each_case_keeps old new was.well).make parent name r h).well_formed
       (MakesGroup-names old was.own parent name r new h)
-  step (RemovedGroup g r) new these h are =
+  step partition (RemovedGroup g r) new these h are =
       kept new these (remove_part g r new these h are) ((each_case_keeps old new was.well).remove g r h).well_formed (RemovesGroup-names old was.own g r new h)
-  step (WroteCpus g cpus r) new these h are =
-      kept new these (cpus_part g cpus r new these h _ _ are) ((each_case_keeps old new was.well).cpus g cpus r h).well_formed (WritesCpus-names old was.own g cpus r new h)
-  step (WroteMems g mems r) new these h are =
+  step partition (WroteCpus g cpus r) new these h are =
+      kept new these (cpus_part partition g cpus r new these h _ _ are) ((each_case_keeps old new was.well).cpus g cpus r h).well_formed (WritesCpus-names old was.own g cpus r new h)
+  step partition (WroteMems g mems r) new these h are =
       kept new these (mems_part g mems r new these h are) ((each_case_keeps old new was.well).mems g mems r h).well_formed (WritesMems-names old was.own g mems r new h)
-  step (EndedGroup g r) new these h are =
+  step partition (EndedGroup g r) new these h are =
       kept new these (end_at (place_of old.tree g) g r new these h are) ((each_case_keeps old new was.well).end g r h).well_formed (own_tree new (writes_keep_tree.end old new g r h))
-  step (Spawned g r) new these h are =
+  step partition (Spawned g r) new these h are =
       let same = writes_keep_tree.spawn old new g r h in
       kept new these (part_none new.tree these same are) ((each_case_keeps old new was.well).spawn g r h).well_formed (own_tree new same)
-  step (Forked parent r) new these h are =
+  step partition (Forked parent r) new these h are =
       let same = (events_keep_groups.fork old new parent r h).0.groups in
       kept new these (groups_part new.tree these same are) ((each_case_keeps old new was.well).fork parent r h).well_formed (own_groups new same)
-  step (Exited pid r) new these h are =
+  step partition (Exited pid r) new these h are =
       let same = (events_keep_groups.exit old new pid r h).0.groups in
       kept new these (groups_part new.tree these same are) ((each_case_keeps old new was.well).exit pid r h).well_formed (own_groups new same)
-  step (WentOffline cpu r) new these h are =
+  step partition (WentOffline cpu r) new these h are =
       let same = (events_keep_groups.offline old new cpu r h).0.groups in
       kept new these (groups_part new.tree these same are) ((each_case_keeps old new was.well).offline cpu r h).well_formed (own_groups new same)
-  step (CameOnline cpu r) new these h are =
+  step partition (CameOnline cpu r) new these h are =
       let same = (events_keep_groups.online old new cpu r h).0.groups in
       kept new these (groups_part new.tree these same are) ((each_case_keeps old new was.well).online cpu r h).well_formed (own_groups new same)
 
@@ -296,7 +298,7 @@ unfolding Past
 past_kept site [] k calls (new, none) = subst (λ (cs : List Asked). Kept site.root site.memory k cs) (sym none) (begun site k new)
 past_kept site (event ∷ past) k calls (old, before, these, was, happens, asks, are) =
     subst (λ (cs : List Asked). Kept site.root site.memory k cs) (sym are)
-    (step site.root site.memory old before (past_kept site past old before was) event k these happens asks)
+    (step site.root site.memory old before (past_kept site past old before was) site.partition event k these happens asks)
 
 pub pasts_stand : PastsStand
 pasts_stand site past k calls was =

@@ -4,11 +4,12 @@ use Rattle.std.specs.FinSet as set
 use Rattle.std.proofs.lemmas.Bool.{both_ways}
 use Rattle.cpu_set.specs.Ids.{Ids, is_same}
 use Rattle.cpu_set.specs.PointwiseLaws.{is_same_decides, same_members}
-use Rattle.std.specs.Prelude.{Option, Result, Ok, Err, [], ◌∷◌}
+use Rattle.std.specs.declared.io.ErrorKind.{ErrorKind}
+use Rattle.std.specs.Prelude.{◌⊎◌, Option, Result, Ok, Err, [], ◌∷◌}
 use Rattle.cgroup_tree.specs.Asked.{Asked, Locked, refused}
-use Rattle.cgroup_tree.specs.Roots.{AnswersRoot, Finding, FindsNoMore, IsFolder, IsTaken, IsListOf, IsFound, CantRead, LooksAtLock, LooksAtMachine, MachineTells, RootTells, Tells, behind_lock}
+use Rattle.cgroup_tree.specs.Roots.{AnswersRoot, Finding, FindsNoMore, IsFolder, IsTaken, IsListOf, IsFound, CantRead, LooksAtControllers, LooksAtCpus, LooksAtLock, LooksAtMachine, LooksAtMems, LooksAtPartition, MachineTells, RootTells, Tells, behind_lock, AreOthers, HaveOthers}
 use Rattle.cgroup_tree.specs.declared.fault.RootFault.{RootFault}
-use Rattle.cgroup_tree.specs.declared.fault.RootFault.TheVariants.{Memory, Taken, Unlocked, Unread, NoCpuset, OtherMachine}
+use Rattle.cgroup_tree.specs.declared.fault.RootFault.TheVariants.{Memory, Taken, Unlocked, Unread, NoCpuset, OtherMachine, NoPartition}
 
 -- a list is one of no other numbers
 pub one_set : (text : List ℕ) (s t : Ids) → IsListOf text s → IsListOf text t → s ≡ t
@@ -40,68 +41,132 @@ module _ (old new : List ℕ → Finding → Type 0) (less : FindsNoMore old new
   unread_before file (Unlocked kind) cant = absurd cant
   unread_before file NoCpuset cant = absurd cant
   unread_before file OtherMachine cant = absurd cant
+  unread_before file NoPartition cant = absurd cant
 
-  pub looks_before : (online nodes : Ids) (answer : Result Ids RootFault) → LooksAtMachine new root online nodes answer → LooksAtMachine old root online nodes answer
-  looks_before online nodes (Ok memory) looks = (found_before _ _ looks.0, found_before _ _ looks.1, found_before _ _ looks.2)
-  looks_before online nodes (Err Memory) looks = tt
-  looks_before online nodes (Err (Unread kind)) (inl cant) = inl (less _ _ cant)
-  looks_before online nodes (Err (Unread kind)) (inr (has, inl cant)) = inr (found_before _ _ has, inl (less _ _ cant))
-  looks_before online nodes (Err (Unread kind)) (inr (has, inr (are, cant))) = inr (found_before _ _ has, inr (found_before _ _ are, less _ _ cant))
-  looks_before online nodes (Err Taken) (inl cant) = absurd cant
-  looks_before online nodes (Err Taken) (inr (has, inl cant)) = absurd cant
-  looks_before online nodes (Err Taken) (inr (has, inr (are, cant))) = absurd cant
-  looks_before online nodes (Err (Unlocked kind)) (inl cant) = absurd cant
-  looks_before online nodes (Err (Unlocked kind)) (inr (has, inl cant)) = absurd cant
-  looks_before online nodes (Err (Unlocked kind)) (inr (has, inr (are, cant))) = absurd cant
-  looks_before online nodes (Err NoCpuset) (inl lacks) = inl (found_before _ _ lacks)
-  looks_before online nodes (Err NoCpuset) (inr (has, inl cant)) = absurd cant
-  looks_before online nodes (Err NoCpuset) (inr (has, inr (are, cant))) = absurd cant
-  looks_before online nodes (Err OtherMachine) (inl cant) = absurd cant
-  looks_before online nodes (Err OtherMachine) (inr (has, inl other)) = inr (found_before _ _ has, inl (found_before _ _ other))
-  looks_before online nodes (Err OtherMachine) (inr (has, inr (are, other))) = inr (found_before _ _ has, inr (found_before _ _ are, found_before _ _ other))
+  partition_before : (partition : Bool) (answer : Result (Unit {0}) RootFault) → LooksAtPartition new root partition answer → LooksAtPartition old root partition answer
+  partition_before false (Ok done) look = tt
+  partition_before false (Err why) look = absurd look
+  partition_before true (Ok done) look = found_before _ _ look
+  partition_before true (Err NoPartition) look = found_before _ _ look
+  partition_before true (Err (Unread kind)) look = less _ _ look
+  partition_before true (Err Memory) look = tt
+  partition_before true (Err Taken) look = absurd look
+  partition_before true (Err (Unlocked kind)) look = absurd look
+  partition_before true (Err NoCpuset) look = absurd look
+  partition_before true (Err OtherMachine) look = absurd look
 
-  tells_before : (file : List ℕ) (least most : Ids) (told : List Asked) → Tells new root file least most told → Tells old root file least most told
-  tells_before file least most told tells = (tells.0, less _ _ tells.1, tells.2)
+  mems_before : (nodes memory : Ids) → LooksAtMems new root nodes (Ok memory) → LooksAtMems old root nodes (Ok memory)
+  mems_before nodes memory look = found_before _ _ look
+
+  -- the looks at the nodes and at the partition file, where the others are for the root
+  mems_on_before : (nodes : Ids) (partition : Bool) (why : RootFault) → (LooksAtMems new root nodes (Err why) → LooksAtMems old root nodes (Err why))
+      → LooksAtMems new root nodes (Err why) ⊎ (((memory : Ids) × LooksAtMems new root nodes (Ok memory)) × LooksAtPartition new root partition (Err why))
+      → LooksAtMems old root nodes (Err why) ⊎ (((memory : Ids) × LooksAtMems old root nodes (Ok memory)) × LooksAtPartition old root partition (Err why))
+  mems_on_before nodes partition why before (inl look) = inl (before look)
+  mems_on_before nodes partition why before (inr (have, look)) = inr ((have.0, mems_before nodes have.0 have.1), partition_before partition (Err why) look)
+
+  pub looks_before : (online nodes : Ids) (partition : Bool) (answer : Result Ids RootFault) → LooksAtMachine new root online nodes partition answer
+      → LooksAtMachine old root online nodes partition answer
+  looks_before online nodes partition (Ok memory) looks =
+      (found_before _ _ looks.0, found_before _ _ looks.1, mems_before nodes memory looks.2, partition_before partition (Ok tt) looks.3)
+  looks_before online nodes partition (Err Memory) looks = tt
+  looks_before online nodes partition (Err (Unread kind)) (inl cant) = inl (less _ _ cant)
+  looks_before online nodes partition (Err (Unread kind)) (inr (has, inl cant)) = inr (found_before _ _ has, inl (less _ _ cant))
+  looks_before online nodes partition (Err (Unread kind)) (inr (has, inr (are, rest))) =
+      inr (found_before _ _ has, inr (found_before _ _ are, mems_on_before nodes partition (Unread kind) (λ cant. less _ _ cant) rest))
+  looks_before online nodes partition (Err Taken) (inl cant) = absurd cant
+  looks_before online nodes partition (Err Taken) (inr (has, inl cant)) = absurd cant
+  looks_before online nodes partition (Err Taken) (inr (has, inr (are, rest))) =
+      inr (found_before _ _ has, inr (found_before _ _ are, mems_on_before nodes partition Taken (λ cant. cant) rest))
+  looks_before online nodes partition (Err (Unlocked kind)) (inl cant) = absurd cant
+  looks_before online nodes partition (Err (Unlocked kind)) (inr (has, inl cant)) = absurd cant
+  looks_before online nodes partition (Err (Unlocked kind)) (inr (has, inr (are, rest))) =
+      inr (found_before _ _ has, inr (found_before _ _ are, mems_on_before nodes partition (Unlocked kind) (λ cant. cant) rest))
+  looks_before online nodes partition (Err NoCpuset) (inl lacks) = inl (found_before _ _ lacks)
+  looks_before online nodes partition (Err NoCpuset) (inr (has, inl cant)) = absurd cant
+  looks_before online nodes partition (Err NoCpuset) (inr (has, inr (are, rest))) =
+      inr (found_before _ _ has, inr (found_before _ _ are, mems_on_before nodes partition NoCpuset (λ cant. cant) rest))
+  looks_before online nodes partition (Err OtherMachine) (inl cant) = absurd cant
+  looks_before online nodes partition (Err OtherMachine) (inr (has, inl other)) = inr (found_before _ _ has, inl (found_before _ _ other))
+  looks_before online nodes partition (Err OtherMachine) (inr (has, inr (are, rest))) =
+      inr (found_before _ _ has, inr (found_before _ _ are, mems_on_before nodes partition OtherMachine (λ other. found_before _ _ other) rest))
+  looks_before online nodes partition (Err NoPartition) (inl cant) = absurd cant
+  looks_before online nodes partition (Err NoPartition) (inr (has, inl cant)) = absurd cant
+  looks_before online nodes partition (Err NoPartition) (inr (has, inr (are, rest))) =
+      inr (found_before _ _ has, inr (found_before _ _ are, mems_on_before nodes partition NoPartition (λ cant. cant) rest))
+
+  tells_before : (file : List ℕ) (IsOther : Option (List ℕ) → Type 0) (least most : Ids) (told : List Asked) → Tells new root file IsOther least most told
+      → Tells old root file IsOther least most told
+  tells_before file IsOther least most told tells = (tells.0, less _ _ tells.1, tells.2, tells.3)
 
   pub machine_tells_before : (online nodes : Ids) (adopt : Bool) (answer : Result Ids RootFault) (told : List Asked) → MachineTells new root online nodes adopt answer told
       → MachineTells old root online nodes adopt answer told
   machine_tells_before online nodes adopt (Ok memory) told tells = tells
-  machine_tells_before online nodes adopt (Err OtherMachine) told (inl tells) = inl (tells_before _ _ _ _ tells)
-  machine_tells_before online nodes adopt (Err OtherMachine) told (inr tells) = inr (tells_before _ _ _ _ tells)
+  machine_tells_before online nodes adopt (Err OtherMachine) told (inl tells) = inl (tells_before _ (AreOthers online) _ _ _ tells)
+  machine_tells_before online nodes adopt (Err OtherMachine) told (inr tells) = inr (tells_before _ (HaveOthers nodes) _ _ _ tells)
+  machine_tells_before online nodes adopt (Err NoPartition) told tells = (tells.0, less _ _ tells.1, tells.2, tells.3)
   machine_tells_before online nodes adopt (Err Memory) told tells = tells
   machine_tells_before online nodes adopt (Err Taken) told tells = tells
   machine_tells_before online nodes adopt (Err (Unlocked kind)) told tells = tells
   machine_tells_before online nodes adopt (Err (Unread kind)) told tells = tells
   machine_tells_before online nodes adopt (Err NoCpuset) told tells = tells
 
+-- a root that has to be a partition root and is none, by the last of the looks behind the lock
+pub partition_refused : (finds : List ℕ → Finding → Type 0) (root : List ℕ) (online nodes memory : Ids) (partition : Bool) (why : RootFault) → LooksAtControllers finds root (Ok tt)
+    → LooksAtCpus finds root online (Ok tt) → LooksAtMems finds root nodes (Ok memory) → LooksAtPartition finds root partition (Err why)
+    → LooksAtMachine finds root online nodes partition (Err why)
+partition_refused finds root online nodes memory partition Memory has are have look = tt
+partition_refused finds root online nodes memory partition Taken has are have look = inr (has, inr (are, inr ((memory, have), look)))
+partition_refused finds root online nodes memory partition (Unlocked kind) has are have look = inr (has, inr (are, inr ((memory, have), look)))
+partition_refused finds root online nodes memory partition (Unread kind) has are have look = inr (has, inr (are, inr ((memory, have), look)))
+partition_refused finds root online nodes memory partition NoCpuset has are have look = inr (has, inr (are, inr ((memory, have), look)))
+partition_refused finds root online nodes memory partition OtherMachine has are have look = inr (has, inr (are, inr ((memory, have), look)))
+partition_refused finds root online nodes memory partition NoPartition has are have look = inr (has, inr (are, inr ((memory, have), look)))
+
 -- why a root is refused: at its lock, and behind it
-module _ (finds : List ℕ → Finding → Type 0) (root : List ℕ) (online nodes : Ids) (adopt : Bool) where
-  pub lock_refused : (why : RootFault) → LooksAtLock finds root {A = Unit {0}} (Err why) → RootTells finds root online nodes adopt (Err why) (refused (Locked root) ∷ [])
-  lock_refused Taken look = refl
-  lock_refused (Unlocked kind) look = refl
-  lock_refused Memory look = inr (inl refl)
-  lock_refused (Unread kind) look = absurd look
-  lock_refused NoCpuset look = absurd look
-  lock_refused OtherMachine look = absurd look
+module _ (finds : List ℕ → Finding → Type 0) (root : List ℕ) (online nodes : Ids) where
+  pub lock_refused : (adopt : Bool) (why : RootFault) → LooksAtLock finds root {A = Unit {0}} (Err why)
+      → RootTells finds root online nodes adopt (Err why) (refused (Locked root) ∷ [])
+  lock_refused adopt Taken look = refl
+  lock_refused adopt (Unlocked kind) look = refl
+  lock_refused adopt Memory look = inr (inl refl)
+  lock_refused adopt (Unread kind) look = absurd look
+  lock_refused adopt NoCpuset look = absurd look
+  lock_refused adopt OtherMachine look = absurd look
+  lock_refused adopt NoPartition look = absurd look
 
-  pub answer_behind : (why : RootFault) → finds root (IsFolder true) → finds root (IsTaken false) → LooksAtMachine finds root online nodes (Err why)
-      → AnswersRoot finds root online nodes (Err why)
-  answer_behind Memory is free looks = tt
-  answer_behind Taken is free looks = inr (is, inr (free, looks))
-  answer_behind (Unlocked kind) is free looks = inr (is, inr (free, looks))
-  answer_behind (Unread kind) is free looks = inr (is, inr (free, looks))
-  answer_behind NoCpuset is free looks = inr (is, inr (free, looks))
-  answer_behind OtherMachine is free looks = inr (is, inr (free, looks))
+  pub answer_behind : (partition : Bool) (why : RootFault) → finds root (IsFolder true) → finds root (IsTaken false)
+      → LooksAtMachine finds root online nodes partition (Err why) → AnswersRoot finds root online nodes partition (Err why)
+  answer_behind partition Memory is free looks = tt
+  answer_behind partition Taken is free looks = inr (is, inr (free, looks))
+  answer_behind partition (Unlocked kind) is free looks = inr (is, inr (free, looks))
+  answer_behind partition (Unread kind) is free looks = inr (is, inr (free, looks))
+  answer_behind partition NoCpuset is free looks = inr (is, inr (free, looks))
+  answer_behind partition OtherMachine is free looks = inr (is, inr (free, looks))
+  answer_behind partition NoPartition is free looks = inr (is, inr (free, looks))
 
-  pub tells_behind : (why : RootFault) (told : List Asked) → LooksAtMachine finds root online nodes (Err why) → MachineTells finds root online nodes adopt (Err why) told
-      → RootTells finds root online nodes adopt (Err why) (behind_lock finds root told)
-  tells_behind Taken told (inl cant) tells = absurd cant
-  tells_behind Taken told (inr (has, inl cant)) tells = absurd cant
-  tells_behind Taken told (inr (has, inr (are, cant))) tells = absurd cant
-  tells_behind (Unlocked kind) told (inl cant) tells = absurd cant
-  tells_behind (Unlocked kind) told (inr (has, inl cant)) tells = absurd cant
-  tells_behind (Unlocked kind) told (inr (has, inr (are, cant))) tells = absurd cant
-  tells_behind Memory told looks tells = inr (inr (ap (behind_lock finds root) tells))
-  tells_behind (Unread kind) told looks tells = inr (ap (behind_lock finds root) tells)
-  tells_behind NoCpuset told looks tells = (told, tells, refl)
-  tells_behind OtherMachine told looks tells = (told, tells, refl)
+  -- no look behind the lock answers that another program has the root, or that it can't be locked
+  partition_not_taken : (partition : Bool) → LooksAtPartition finds root partition (Err Taken) → ⊥
+  partition_not_taken false look = look
+  partition_not_taken true look = look
+
+  partition_not_unlocked : (partition : Bool) (kind : ErrorKind) → LooksAtPartition finds root partition (Err (Unlocked kind)) → ⊥
+  partition_not_unlocked false kind look = look
+  partition_not_unlocked true kind look = look
+
+  pub tells_behind : (partition adopt : Bool) (why : RootFault) (told : List Asked) → LooksAtMachine finds root online nodes partition (Err why)
+      → MachineTells finds root online nodes adopt (Err why) told → RootTells finds root online nodes adopt (Err why) (behind_lock finds root told)
+  tells_behind partition adopt Taken told (inl cant) tells = absurd cant
+  tells_behind partition adopt Taken told (inr (has, inl cant)) tells = absurd cant
+  tells_behind partition adopt Taken told (inr (has, inr (are, inl cant))) tells = absurd cant
+  tells_behind partition adopt Taken told (inr (has, inr (are, inr (have, cant)))) tells = absurd (partition_not_taken partition cant)
+  tells_behind partition adopt (Unlocked kind) told (inl cant) tells = absurd cant
+  tells_behind partition adopt (Unlocked kind) told (inr (has, inl cant)) tells = absurd cant
+  tells_behind partition adopt (Unlocked kind) told (inr (has, inr (are, inl cant))) tells = absurd cant
+  tells_behind partition adopt (Unlocked kind) told (inr (has, inr (are, inr (have, cant)))) tells =
+      absurd (partition_not_unlocked partition kind cant)
+  tells_behind partition adopt Memory told looks tells = inr (inr (ap (behind_lock finds root) tells))
+  tells_behind partition adopt (Unread kind) told looks tells = inr (ap (behind_lock finds root) tells)
+  tells_behind partition adopt NoCpuset told looks tells = (told, tells, refl)
+  tells_behind partition adopt OtherMachine told looks tells = (told, tells, refl)
+  tells_behind partition adopt NoPartition told looks tells = (told, tells, refl)

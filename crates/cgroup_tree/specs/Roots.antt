@@ -1,6 +1,6 @@
 -- What the root of a cgroup tree has to be before a run begins, and why it is refused.
--- From: cgroup v2, "Core Interface Files", `cgroup.controllers`, `cpuset.cpus.effective`, `cpuset.mems.effective`; cpuset(7),
--- List Format.
+-- From: cgroup v2, "Core Interface Files", `cgroup.controllers`, `cpuset.cpus.effective`, `cpuset.mems.effective`,
+-- `cpuset.cpus.partition`; cpuset(7), List Format.
 use Rattle.std.specs.Prelude.{◌≡◌, ◌≢◌, ◌⊎◌, ◌==◌, ◌||◌, ⊤, ℕ, Bool, true, false, if◌then◌else◌, List, [], ◌∷◌, ◌++◌, codes, bytes_eq, Option, Some, None, Result, Ok, Err}
 use Rattle.std.specs.FinSet as set
 use Rattle.std.specs.List.{list_any, slice_split}
@@ -10,8 +10,8 @@ use Rattle.cpu_set.specs.Ids.{Ids}
 use Rattle.cpu_set.specs.declared.TheConstants.{CPU_LIMIT}
 use Rattle.cpu_list.specs.FirstFault.{first_fault}
 use Rattle.cpu_list.specs.ListText.{IsSetOf}
-use Rattle.cgroup_tree.specs.Asked.{Asked, Remark, Lacks, HasBesides, NoList, Locked, Named, Told, done, refused}
-use Rattle.cgroup_tree.specs.Paths.{cpus_in_effect}
+use Rattle.cgroup_tree.specs.Asked.{Asked, Remark, Lacks, HasBesides, NoList, Holds, IsAbsent, Locked, Named, Told, done, refused}
+use Rattle.cgroup_tree.specs.Paths.{cpus_in_effect, partition_file, partition_line}
 use Rattle.cgroup_tree.specs.declared.difference.Difference.{Difference}
 use Rattle.cgroup_tree.specs.declared.difference.Difference.TheVariants as difference
 use Rattle.cgroup_tree.specs.declared.fault.RootFault.{RootFault}
@@ -65,6 +65,33 @@ IsLockFaultOf kind root_fault.Memory = kind ≡ OutOfMemory
 IsLockFaultOf kind (root_fault.Unlocked told) = told ≡ kind
 IsLockFaultOf kind _ = ⊥
 
+-- the CPUs in effect are the online ones, or are not told
+abbrev pub AreOnline : Ids → Option (List ℕ) → Type 0
+AreOnline online None = ⊤
+AreOnline online (Some text) = IsListOf text online
+
+-- they are others
+abbrev pub AreOthers : Ids → Option (List ℕ) → Type 0
+AreOthers online text = AreOnline online text → ⊥
+
+-- the nodes in effect are these, all of the machine's; or they are not told, and these are all
+abbrev pub HaveMemory : Ids → Ids → Option (List ℕ) → Type 0
+HaveMemory nodes memory None = memory ≡ nodes
+HaveMemory nodes memory (Some text) = IsListOf text memory × (set.is_subset memory nodes ≡ true)
+
+-- there are others among them
+abbrev pub HaveOthers : Ids → Option (List ℕ) → Type 0
+HaveOthers nodes text = (memory : Ids) → HaveMemory nodes memory text → ⊥
+
+-- the root is a valid partition root, whose load the scheduler balances
+abbrev pub IsPartition : Option (List ℕ) → Type 0
+IsPartition None = ⊥
+IsPartition (Some text) = text ≡ partition_line
+
+-- it is none
+abbrev pub IsNoPartition : Option (List ℕ) → Type 0
+IsNoPartition text = IsPartition text → ⊥
+
 -- of a root's path, where looks at paths may find this
 module _ (finds : List ℕ → Finding → Type 0) (root : List ℕ) where
   -- a file of the root was found to have this
@@ -85,16 +112,6 @@ module _ (finds : List ℕ → Finding → Type 0) (root : List ℕ) where
   abbrev pub LacksCpusets : Option (List ℕ) → Type 0
   LacksCpusets None = ⊥
   LacksCpusets (Some text) = names_cpuset text ≡ false
-
-  -- the CPUs in effect are the online ones, or are not told
-  abbrev pub AreOnline : Ids → Option (List ℕ) → Type 0
-  AreOnline online None = ⊤
-  AreOnline online (Some text) = IsListOf text online
-
-  -- the nodes in effect are these, all of the machine's; or they are not told, and these are all
-  abbrev pub HaveMemory : Ids → Ids → Option (List ℕ) → Type 0
-  HaveMemory nodes memory None = memory ≡ nodes
-  HaveMemory nodes memory (Some text) = IsListOf text memory × (set.is_subset memory nodes ≡ true)
 
   -- the first look at the root: whether it is a folder
   abbrev pub LooksAtFolder : Result (Unit {0}) RootFault → Type 0
@@ -120,40 +137,58 @@ module _ (finds : List ℕ → Finding → Type 0) (root : List ℕ) where
   -- the look at its CPUs in effect
   abbrev pub LooksAtCpus : Ids → Result (Unit {0}) RootFault → Type 0
   LooksAtCpus online (Ok done) = IsFound cpus_in_effect (AreOnline online)
-  LooksAtCpus online (Err root_fault.OtherMachine) = IsFound cpus_in_effect (λ text. AreOnline online text → ⊥)
+  LooksAtCpus online (Err root_fault.OtherMachine) = IsFound cpus_in_effect (AreOthers online)
   LooksAtCpus online (Err why) = CantRead cpus_in_effect why
 
   -- the look at its nodes in effect
   abbrev pub LooksAtMems : Ids → Result Ids RootFault → Type 0
   LooksAtMems nodes (Ok memory) = IsFound mems_in_effect (HaveMemory nodes memory)
-  LooksAtMems nodes (Err root_fault.OtherMachine) = IsFound mems_in_effect (λ text. (memory : Ids) → HaveMemory nodes memory text → ⊥)
+  LooksAtMems nodes (Err root_fault.OtherMachine) = IsFound mems_in_effect (HaveOthers nodes)
   LooksAtMems nodes (Err why) = CantRead mems_in_effect why
 
-  -- the looks behind the lock, in their order: what a root tells of the machine
-  abbrev pub LooksAtMachine : (online nodes : Ids) → Result Ids RootFault → Type 0
-  LooksAtMachine online nodes (Ok memory) =
+  -- the look at its partition file, if it has to be a partition root; else nothing is looked at
+  abbrev pub LooksAtPartition : Bool → Result (Unit {0}) RootFault → Type 0
+  LooksAtPartition false (Ok done) = ⊤
+  LooksAtPartition false (Err why) = ⊥
+  LooksAtPartition true (Ok done) = IsFound partition_file IsPartition
+  LooksAtPartition true (Err root_fault.NoPartition) = IsFound partition_file IsNoPartition
+  LooksAtPartition true (Err why) = CantRead partition_file why
+
+  -- the looks at a root that is a folder and that no other program has, in their order: what it tells of the machine, and whether
+  -- it is a partition root if it has to be one
+  abbrev pub LooksAtMachine : (online nodes : Ids) → (partition : Bool) → Result Ids RootFault → Type 0
+  LooksAtMachine online nodes partition (Ok memory) =
       IsFound controllers_file HasCpusets × IsFound cpus_in_effect (AreOnline online) × LooksAtMems nodes (Ok memory)
-  LooksAtMachine online nodes (Err root_fault.Memory) = ⊤
-  LooksAtMachine online nodes (Err why) =
+      × LooksAtPartition partition (Ok tt)
+  LooksAtMachine online nodes partition (Err root_fault.Memory) = ⊤
+  LooksAtMachine online nodes partition (Err why) =
       LooksAtControllers (Err why)
       ⊎ (IsFound controllers_file HasCpusets × (LooksAtCpus online (Err why)
-      ⊎ (IsFound cpus_in_effect (AreOnline online) × LooksAtMems nodes (Err why))))
+      ⊎ (IsFound cpus_in_effect (AreOnline online) × (LooksAtMems nodes (Err why)
+      ⊎ (((memory : Ids) × LooksAtMems nodes (Ok memory)) × LooksAtPartition partition (Err why))))))
 
   -- the nodes of a root that have memory, or why it is refused: the first of the looks that is against it; an allocation may
   -- fail anywhere
-  abbrev pub AnswersRoot : (online nodes : Ids) → Result Ids RootFault → Type 0
-  AnswersRoot online nodes (Ok memory) = finds root (IsFolder true) × finds root (IsTaken false) × LooksAtMachine online nodes (Ok memory)
-  AnswersRoot online nodes (Err root_fault.Memory) = ⊤
-  AnswersRoot online nodes (Err why) =
+  abbrev pub AnswersRoot : (online nodes : Ids) → (partition : Bool) → Result Ids RootFault → Type 0
+  AnswersRoot online nodes partition (Ok memory) = finds root (IsFolder true) × finds root (IsTaken false) × LooksAtMachine online nodes partition (Ok memory)
+  AnswersRoot online nodes partition (Err root_fault.Memory) = ⊤
+  AnswersRoot online nodes partition (Err why) =
       LooksAtFolder (Err why)
       ⊎ (finds root (IsFolder true) × (LooksAtLock {A = Unit {0}} (Err why)
-      ⊎ (finds root (IsTaken false) × LooksAtMachine online nodes (Err why))))
+      ⊎ (finds root (IsTaken false) × LooksAtMachine online nodes partition (Err why))))
 
 -- what is told of a difference
 abbrev pub remark_of : Difference → Remark
 remark_of (difference.Lacks numbers) = Lacks numbers.now
 remark_of (difference.HasBesides numbers) = HasBesides numbers.now
 remark_of difference.NoList = NoList
+remark_of (difference.Holds text) = Holds text.now
+remark_of difference.Absent = IsAbsent
+
+-- what is told of the file of a root that is no partition root: the text that it has, or that there is none
+abbrev pub partition_remark : Option (List ℕ) → Remark
+partition_remark None = IsAbsent
+partition_remark (Some text) = Holds text
 
 -- a remark on a file, unless there are no such numbers
 abbrev pub TellsUnlessNone : List ℕ → Ids → Remark → List Asked → Type 0
@@ -176,18 +211,30 @@ TellsOthers path text least most told =
 -- what was asked of the trees while a root was looked at, the newest first
 module _ (finds : List ℕ → Finding → Type 0) (root : List ℕ) where
   -- a file of the root was read, and is another machine's by its text: this was told of it
-  abbrev pub Tells : (file : List ℕ) → (least most : Ids) → List Asked → Type 0
-  Tells file least most told = (text : List ℕ) × finds (root ++ file) (Has (Some text)) × TellsOthers (root ++ file) text least most told
+  abbrev pub Tells : (file : List ℕ) → (Option (List ℕ) → Type 0) → (least most : Ids) → List Asked → Type 0
+  Tells file IsOther least most told =
+      (text : List ℕ) × finds (root ++ file) (Has (Some text)) × IsOther (Some text) × TellsOthers (root ++ file) text least most told
 
   -- by the look at its CPUs in effect
   abbrev pub CpusTell : Ids → Result (Unit {0}) RootFault → List Asked → Type 0
-  CpusTell online (Err root_fault.OtherMachine) told = Tells cpus_in_effect online online told
+  CpusTell online (Err root_fault.OtherMachine) told = Tells cpus_in_effect (AreOthers online) online online told
   CpusTell online answer told = told ≡ []
 
   -- by the look at its nodes in effect, of which there may be fewer
   abbrev pub MemsTell : Ids → Result Ids RootFault → List Asked → Type 0
-  MemsTell nodes (Err root_fault.OtherMachine) told = Tells mems_in_effect set.empty nodes told
+  MemsTell nodes (Err root_fault.OtherMachine) told = Tells mems_in_effect (HaveOthers nodes) set.empty nodes told
   MemsTell nodes answer told = told ≡ []
+
+  -- its partition file was read, and is no partition root's: this was told of it
+  abbrev pub TellsPartition : List Asked → Type 0
+  TellsPartition told =
+      (text : Option (List ℕ)) × finds (root ++ partition_file) (Has text) × IsNoPartition text
+      × (told ≡ done (Told (root ++ partition_file) (partition_remark text)) ∷ [])
+
+  -- by the look at its partition file
+  abbrev pub PartitionTells : Result (Unit {0}) RootFault → List Asked → Type 0
+  PartitionTells (Err root_fault.NoPartition) told = TellsPartition told
+  PartitionTells answer told = told ≡ []
 
   -- the folders of a run before are named, where they may be there
   abbrev pub names_strangers : Bool → List Asked
@@ -196,15 +243,17 @@ module _ (finds : List ℕ → Finding → Type 0) (root : List ℕ) where
   -- by the looks behind the lock
   abbrev pub MachineTells : (online nodes : Ids) → (adopt : Bool) → Result Ids RootFault → List Asked → Type 0
   MachineTells online nodes adopt (Ok memory) told = told ≡ names_strangers adopt
-  MachineTells online nodes adopt (Err root_fault.OtherMachine) told = Tells cpus_in_effect online online told ⊎ Tells mems_in_effect set.empty nodes told
+  MachineTells online nodes adopt (Err root_fault.OtherMachine) told =
+      Tells cpus_in_effect (AreOthers online) online online told ⊎ Tells mems_in_effect (HaveOthers nodes) set.empty nodes told
+  MachineTells online nodes adopt (Err root_fault.NoPartition) told = TellsPartition told
   MachineTells online nodes adopt (Err why) told = told ≡ []
 
   -- it was kept from other programs, and then this was asked
   abbrev pub behind_lock : List Asked → List Asked
   behind_lock told = told ++ done (Locked root) ∷ []
 
-  -- while a root was opened: it was kept from other programs, and what it has was told where it is another machine's. The
-  -- folders of a run before were named where it was taken. Nothing that changes a file was asked.
+  -- while a root was opened: it was kept from other programs, and what it has was told where it is another machine's or no
+  -- partition root. The folders of a run before were named where it was taken. Nothing that changes a file was asked.
   abbrev pub RootTells : (online nodes : Ids) → (adopt : Bool) → Result Ids RootFault → List Asked → Type 0
   RootTells online nodes adopt (Err root_fault.Taken) asked = asked ≡ refused (Locked root) ∷ []
   RootTells online nodes adopt (Err (root_fault.Unlocked kind)) asked = asked ≡ refused (Locked root) ∷ []

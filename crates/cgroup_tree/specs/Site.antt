@@ -18,11 +18,12 @@ abbrev pub Begins : Beginning → KernelState → Type 0
 Begins b k = IsFirstKernel b.present b.reserved b.online b.nodes b.first_pid k
 
 -- where the writes of a mirrored kernel are made: the path of the root group's folder, and the nodes that have memory.
--- Whether folders of a run before may be there. How the kernel began.
+-- Whether folders of a run before may be there, and whether the root has to be a partition root. How the kernel began.
 pub record Site : Type 0 where
   pub root : List ℕ
   pub memory : Ids
   pub adopt : Bool
+  pub partition : Bool
   pub first : Beginning
 
 -- how the files there are opened: other programs are kept from the root
@@ -35,5 +36,6 @@ nowhere = record {
   root = [];
   memory = set.empty;
   adopt = false;
+  partition = false;
   first = record { present = set.empty; reserved = set.empty; online = set.empty; nodes = set.empty; first_pid = 0 };
 }

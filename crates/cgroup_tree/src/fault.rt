@@ -19,6 +19,8 @@ pub enum RootFault {
     /// E116: what says its CPUs in effect is there and names others than those that are online, or a node in effect is
     /// none of the machine's; so is what is no list.
     OtherMachine,
+    /// E117: it has to be a partition root, and `cpuset.cpus.partition` is not there or has another line than `root`.
+    NoPartition,
 }
 
 impl From<io::Error> for RootFault {

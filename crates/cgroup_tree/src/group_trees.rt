@@ -69,7 +69,7 @@ pub trait GroupTrees {
             (λ text. finds self.now path.now (Has (option_map (λ bytes. bytes.items) text)))
             (λ error. finds self.now path.now (Fails (error_kind error))) };
 
-    /// Tells the operator by what the file of this path differs from what a machine's has.
+    /// Tells the operator by what the file of this path differs from what it has to have.
     fn tell(&mut self, path: &str, difference: Difference<'_>)
         ensures { Asks asked self.old (done (Told path.now (remark_of difference.entry)) ∷ []) self.new };
 

@@ -4,7 +4,7 @@ ghost use Rattle.std.specs.Prelude.{◌≡◌, ⊤};
 use crate::shown::Shown;
 use crate::{Difference, GroupTrees, HostFiles};
 use cpu_list::print;
-use cpu_set::CPU_LIMIT;
+use cpu_set::{CPU_LIMIT, IdSet};
 use std::alloc::Global;
 use std::fs::{File, TryLockError};
 use std::io::ErrorKind;
@@ -47,6 +47,31 @@ impl<R: Files + Eprint> HostTrees<'_, R> {
         io::Error::from(ErrorKind::Other)
     }
 }
+
+impl<R: AllocGlobal + Eprint> HostTrees<'_, R> {
+    /// Says on standard error which numbers a file has too few or too many.
+    fn tell_numbers(&self, path: &str, what: &str, numbers: &IdSet) {
+        if let Ok(list) = print(self.rt.alloc(), numbers) {
+            let _ = eprintln!(self.rt; "error: {}: {what} {list}", Shown(path));
+        }
+    }
+
+    /// Says on standard error what the file of a root has that is no partition root, and why an isolated one is none.
+    fn tell_text(&self, path: &str, text: &[u8]) {
+        let text = str::from_utf8(text).unwrap_or("no text").trim_end();
+        let text = if text.is_empty() { "nothing" } else { text };
+        let _ = eprintln!(self.rt; "error: {}: {} in place of root", Shown(path), Shown(text));
+        if text.starts_with(ISOLATED) {
+            let _ = eprintln!(self.rt;
+                "note: {}: no load is balanced there, so all threads of a container may run on one CPU",
+                Shown(path)
+            );
+        }
+    }
+}
+
+/// How the text of a partition root begins whose load the scheduler does not balance.
+const ISOLATED: &str = "isolated";
 
 /// The folder of this path, open and locked (flock(2)): until the file is closed, or its program has ended, no other
 /// has the lock.
@@ -109,19 +134,22 @@ impl<'a, R: Files<File = File> + AllocGlobal + Clock + Eprint + Clone + Drop> Gr
     }
 
     fn tell(&mut self, path: &str, difference: Difference<'_>) {
-        let (what, numbers) = match difference {
-            Difference::Lacks(numbers) => ("lacks", numbers),
-            Difference::HasBesides(numbers) => ("has besides", numbers),
+        match difference {
+            Difference::Lacks(numbers) => self.tell_numbers(path, "lacks", numbers),
+            Difference::HasBesides(numbers) => self.tell_numbers(path, "has besides", numbers),
             Difference::NoList => {
                 let _ = eprintln!(self.rt;
                     "error: {}: is no list of numbers below {CPU_LIMIT}",
                     Shown(path)
                 );
-                return;
             }
-        };
-        if let Ok(list) = print(self.rt.alloc(), numbers) {
-            let _ = eprintln!(self.rt; "error: {}: {what} {list}", Shown(path));
+            Difference::Holds(text) => self.tell_text(path, text),
+            Difference::Absent => {
+                let _ = eprintln!(self.rt;
+                    "error: {}: there is no such file, so this group can be no partition",
+                    Shown(path)
+                );
+            }
         }
     }
 

@@ -1,7 +1,9 @@
 //! How the files of a cgroup v2 tree stand to the model: laws over the definitions alone. Nothing here runs.
 ghost use Rattle.std.specs.Prelude.{◌≡◌, true, false, [], ◌∷◌, codes};
 ghost use Rattle.kernel_model.specs.Worked.{root, small, web};
-ghost use Rattle.cgroup_tree.specs.Asked.{Made, Written, done, refused};
+ghost use Rattle.cgroup_tree.specs.Asked.{Compared, Made, Written, done, refused};
+ghost use Rattle.cgroup_tree.specs.Mirrored.{looks_behind};
+ghost use Rattle.cgroup_tree.specs.Partitions.{PartitionIsOwn, StayBelowRoot};
 ghost use Rattle.cgroup_tree.specs.Paths.{folder};
 ghost use Rattle.cgroup_tree.specs.Roots.{names_cpuset};
 ghost use Rattle.cgroup_tree.specs.Standing.{FoldersStand, PlainNamesApart, WritesStand, text_in};
@@ -28,6 +30,14 @@ pub fn pasts()
     ensures { PastsStand }
 {}
 
+/// A partition root and the groups outside it are two trees: the root of the one has the partition's CPUs, and that of
+/// the other none of these. No group has in effect what its tree's root has not, so no group outside has in effect what
+/// a group of the partition has, whatever they request.
+pub fn partitions()
+    ensures below { StayBelowRoot }
+    ensures own { PartitionIsOwn }
+{}
+
 /// Worked rows of docs/formats.md, "In a cgroup tree": folders of groups, texts of files after calls, and controllers,
 /// with the definitions evaluated.
 #[tactic(auto, unfolding(crate::specs::Paths::folder_within, crate::specs::Standing::text_in))]
@@ -48,4 +58,9 @@ pub fn worked()
         (codes "web/cpuset.cpus") ≡ None }
     ensures has_cpusets { names_cpuset (codes "cpu cpuset io\n") ≡ true }
     ensures has_none { names_cpuset (codes "cpu cpusets io\n") ≡ false }
+    ensures looked_behind { looks_behind true (codes "/sys/fs/cgroup/pinned") (Written (codes "web") [])
+        ≡ done (Compared (codes "/sys/fs/cgroup/pinned/cpuset.cpus.partition") (codes "root\n"))
+        ∷ done (Written (codes "web") []) ∷ [] }
+    ensures not_looked { looks_behind false (codes "/sys/fs/cgroup/pinned") (Written (codes "web") [])
+        ≡ done (Written (codes "web") []) ∷ [] }
 {}

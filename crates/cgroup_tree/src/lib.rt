@@ -9,10 +9,11 @@
 //! - `MirroredKernel` meets the trait `Kernel`. Its meaning is the modelled kernel's; writes that never came to the
 //!   model count as writes and failures. So all that is proved of failing writes holds of it.
 //! - What each writing call asks of the tree's files is its contract, on top of the trait's (`Mirrors`,
-//!   `MirrorsLook`, `MirrorsBoth`). If it is Ok, it asked for exactly the write that it stands for, and that was
+//!   `MirrorsLooks`, `MirrorsBoth`). If it is Ok, it asked for exactly the write that it stands for, and that was
 //!   done. If it failed, it asked for that write and was refused; a group that is made may fail with nothing asked.
-//!   If something stood against it in the model, it asked for nothing. Behind a write of CPUs `cpuset.cpus.effective`
-//!   is compared with what the model has in effect.
+//!   If something stood against it in the model, it asked for nothing. Behind a write of CPUs that is done the files
+//!   are asked to compare `cpuset.cpus.effective` with what the model has in effect and, if the root has to be a
+//!   partition root, the root's `cpuset.cpus.partition` with `root`. What such a call reads and tells is not said here.
 //! - A write takes no memory. There is room for the path of each file of each group, and for the line of any set
 //!   (`HasRoom`): the kernel's making takes it, and a group's. Only a group that is made fails for want of it.
 //! - No path leaves the root: names with a slash, `.` and `..` are refused.
@@ -27,20 +28,24 @@
 //!   one folder. Each group's `cpuset.cpus` is the line of the set that it requests. Its `cpuset.mems` is the line of
 //!   those of its nodes that have memory. This is claimed of what was asked. It holds of the files themselves if they
 //!   do what they answer and nobody else writes.
-//! - What looks at paths may find is a relation of the trait `GroupTrees`. So E113, E115, E116 and the E50 of a second
-//!   program, or of a root that can't be locked, come exactly if what was found says so. An allocation failure may come
-//!   anywhere, so a body that always answers one meets that too.
+//! - What looks at paths may find is a relation of the trait `GroupTrees`. So E113, E115, E116, E117 and the E50 of a
+//!   second program, or of a root that can't be locked, come only if a look may find what says so. What is told is what
+//!   such a look found. The clauses don't say how often a path is looked at. An allocation failure may come anywhere,
+//!   so a body that always answers one meets that too.
+//! - The groups outside a partition root have in effect none of its CPUs, whatever they request, by the kernel's rule
+//!   that the root of these groups has none of them (`laws::partitions`). No call writes a `cpuset.cpus.partition`, or
+//!   the root's own `cpuset.cpus`.
 //! - `GroupTrees` has the list of all that was asked of trees. A root that is refused asks for no more than its lock
-//!   and what is told of it: which CPUs or nodes it lacks, and which it has besides. One that is taken asks for its
-//!   lock, and with `--adopt` for the folders of a run before to be named (`RootTells`).
+//!   and what is told of it: which CPUs or nodes it lacks and has besides, or what its partition file has. One that is
+//!   taken asks for its lock, and with `--adopt` for the folders of a run before to be named (`RootTells`).
 //! - How files were opened is part of their relation, with the folder that they are locked by. No call of theirs
 //!   changes it. So the lock is held from the opening until the files are taken back (`close`), which puts all that
 //!   they were asked for into the list of the trees.
 //! - No contract can say what a file system does. Of the system's own files (`HostFiles`, `HostTrees`) it is proved
 //!   that their calls end and do nothing undefined. It is also proved that they are opened with folders of a run
 //!   before, or without, as they are told, and that none of their calls drops the open file that is locked. Tests show
-//!   the rest: a look finds what is there, and a lock keeps others off
-//!   until the program has ended. A write reaches the file, and what was there before is left. They show the notes too.
+//!   the rest: a look finds what is there, and a lock keeps others off until the program has ended. A write reaches the
+//!   file, and what was there before is left. They show the notes too.
 #![tactic(auto)]
 
 mod cgroup;
@@ -55,6 +60,7 @@ pub mod laws;
 mod line;
 mod mirror;
 mod mirrored_kernel;
+mod partition;
 mod paths;
 mod room;
 mod root;
@@ -69,5 +75,5 @@ pub use host_files::HostFiles;
 pub use host_trees::HostTrees;
 pub use mirrored_kernel::MirroredKernel;
 pub use room::Room;
-pub use root::{OpenTree, open_tree};
+pub use root::{OpenTree, RootOptions, open_tree};
 pub use sited::Sited;

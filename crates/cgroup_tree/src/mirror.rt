@@ -8,8 +8,8 @@ ghost use Rattle.kernel_model.specs.declared.KernelFault.TheVariants.{Failed};
 ghost use Rattle.kernel_model.specs.Cases.{MakesGroup, RemovesGroup, WritesCpus, WritesMems, Spawns, EndsGroup, Forks};
 ghost use Rattle.kernel_model.specs.Cases.{Exits, GoesOffline, ComesOnline};
 ghost use Rattle.cgroup_tree.specs.Asked.{Asks, Compared, Made, Removed, Unmade, Written, done};
-ghost use Rattle.cgroup_tree.specs.Mirrored.{mirrored, Mirrors, MirrorsAt, MirrorsBoth, MirrorsLook};
-ghost use Rattle.cgroup_tree.specs.Mirrored.{IsNamed};
+ghost use Rattle.cgroup_tree.specs.Mirrored.{mirrored, Mirrors, MirrorsAt, MirrorsBoth};
+ghost use Rattle.cgroup_tree.specs.Mirrored.{IsNamed, MirrorsLooks, looks_behind};
 ghost use Rattle.cgroup_tree.specs.Room.{HasRoom};
 ghost use Rattle.cgroup_tree.specs.Paths.{folder, below, list_line, cpus_file, mems_file, kill_file, controls_file};
 ghost use Rattle.cgroup_tree.specs.Paths.{cpus_in_effect, kill_line, controls_line};
@@ -17,6 +17,7 @@ ghost use Rattle.cgroup_tree.specs.Paths.{cpus_in_effect, kill_line, controls_li
 use crate::GroupFiles;
 use crate::cgroup::{end_all, make_folder, remove_folder};
 use crate::cpuset::{compare_list, with_memory, write_list};
+use crate::partition::compare_partition;
 use crate::paths::{is_name, widen};
 use crate::room::{LINE_ROOM, Room};
 use cpu_set::IdSet;
@@ -37,6 +38,8 @@ pub struct Mirror<F: GroupFiles> {
     pub root: String,
     /// The nodes that have memory.
     pub memory: IdSet,
+    /// Whether the root has to be a partition root.
+    pub partition: bool,
     /// What each call returns and changes.
     pub inner: ModelKernel,
     /// What the writes are asked of.
@@ -49,10 +52,18 @@ pub struct Mirror<F: GroupFiles> {
 
 impl<F: GroupFiles> Mirror<F> {
     /// The kernel over these files, the root group's folder at this path.
-    pub fn new(inner: ModelKernel, root: String, memory: IdSet, files: F, room: Room) -> Mirror<F>
+    pub fn new(
+        inner: ModelKernel,
+        root: String,
+        memory: IdSet,
+        partition: bool,
+        files: F,
+        room: Room,
+    ) -> Mirror<F>
         ensures inner { result.inner ≡ inner }
         ensures root { result.root ≡ root }
         ensures memory { result.memory ≡ memory }
+        ensures partition { result.partition ≡ partition }
         ensures files { result.files ≡ files }
         ensures failed { result.failed.writes ≡ 0 }
         ensures room { result.room ≡ room }
@@ -60,6 +71,7 @@ impl<F: GroupFiles> Mirror<F> {
         Mirror {
             root,
             memory,
+            partition,
             inner,
             files,
             failed: WriteCount::none(),
@@ -74,6 +86,7 @@ impl<F: GroupFiles> Mirror<F> {
         ensures inner { self.new.inner ≡ self.old.inner }
         ensures root { self.new.root ≡ self.old.root }
         ensures memory { self.new.memory ≡ self.old.memory }
+        ensures partition { self.new.partition ≡ self.old.partition }
         ensures files { self.new.files ≡ self.old.files }
         ensures room { self.new.room ≡ self.old.room }
     {
@@ -92,7 +105,8 @@ impl<F: GroupFiles> Mirror<F> {
             (Made (string_bytes self.old.root ++ (folder self.old.inner.tree parent ++ below name.now)))
             (Unmade (string_bytes self.old.root ++ (folder self.old.inner.tree parent ++ below name.now))) result
             self.new.files }
-        ensures same { (self.new.root ≡ self.old.root) × (self.new.memory ≡ self.old.memory) }
+        ensures same { (self.new.root ≡ self.old.root) × (self.new.memory ≡ self.old.memory)
+            × (self.new.partition ≡ self.old.partition) }
         ensures named { IsNamed name.now result }
         ensures wide { IfOk result (λ _. length (string_bytes self.old.root)
             + (length (folder self.old.inner.tree parent) + (length name.now + 25))
@@ -128,7 +142,8 @@ impl<F: GroupFiles> Mirror<F> {
             (mirrored self.new.failed.writes self.new.inner) }
         ensures asks { Mirrors F.asked self.old.files
             (Removed (string_bytes self.old.root ++ (folder self.old.inner.tree group ++ []))) result self.new.files }
-        ensures same { (self.new.root ≡ self.old.root) × (self.new.memory ≡ self.old.memory) }
+        ensures same { (self.new.root ≡ self.old.root) × (self.new.memory ≡ self.old.memory)
+            × (self.new.partition ≡ self.old.partition) }
         ensures wider { (string_capacity self.old.room.path ≤ string_capacity self.new.room.path)
             × (string_capacity self.old.room.line ≤ string_capacity self.new.room.line) }
     {
@@ -141,18 +156,21 @@ impl<F: GroupFiles> Mirror<F> {
         self.inner.remove_group(group)
     }
 
-    /// Writes what a group requests of CPUs, and looks whether it has them in effect.
+    /// Writes what a group requests of CPUs, and looks whether it has them in effect; and whether the root is still a
+    /// partition root, if it has to be one.
     pub fn write_cpus(&mut self, group: Group, cpus: IdSet) -> Result<(), KernelFault>
         requires path { HasRoom (string_capacity self.old.room.path) (string_bytes self.old.root) self.old.inner.tree }
         requires line { LINE_ROOM ≤ string_capacity self.old.room.line }
         ensures case { WritesCpus (mirrored self.old.failed.writes self.old.inner) group cpus result
             (mirrored self.new.failed.writes self.new.inner) }
-        ensures asks { MirrorsLook F.asked self.old.files
+        ensures asks { MirrorsLooks F.asked self.old.files
             (Written (string_bytes self.old.root
             ++ (folder self.old.inner.tree group ++ cpus_file)) (list_line cpus))
+            (looks_behind self.old.partition (string_bytes self.old.root)
             (Compared (string_bytes self.old.root ++ (folder self.new.inner.tree group ++ cpus_in_effect))
-            (list_line (effective_cpus self.new.inner.tree group))) result self.new.files }
-        ensures same { (self.new.root ≡ self.old.root) × (self.new.memory ≡ self.old.memory) }
+            (list_line (effective_cpus self.new.inner.tree group)))) result self.new.files }
+        ensures same { (self.new.root ≡ self.old.root) × (self.new.memory ≡ self.old.memory)
+            × (self.new.partition ≡ self.old.partition) }
         ensures wider { (string_capacity self.old.room.path ≤ string_capacity self.new.room.path)
             × (string_capacity self.old.room.line ≤ string_capacity self.new.room.line) }
     {
@@ -176,8 +194,30 @@ impl<F: GroupFiles> Mirror<F> {
         answer
     }
 
-    /// Looks whether a group has in effect the CPUs that the model says.
+    /// Looks whether a group has in effect the CPUs that the model says. Looks whether the root is still a partition
+    /// root, if it has to be one.
     fn look(&mut self, group: Group)
+        requires path { HasRoom (string_capacity self.old.room.path) (string_bytes self.old.root) self.old.inner.tree }
+        requires line { LINE_ROOM ≤ string_capacity self.old.room.line }
+        requires there { has_group self.old.inner.tree group ≡ true }
+        ensures looks { Asks F.asked self.old.files
+            (looks_behind self.old.partition (string_bytes self.old.root) (Compared (string_bytes self.old.root
+            ++ (folder self.old.inner.tree group ++ cpus_in_effect))
+            (list_line (effective_cpus self.old.inner.tree group)))) self.new.files }
+        ensures same { (self.new.root ≡ self.old.root) × (self.new.memory ≡ self.old.memory)
+            × (self.new.partition ≡ self.old.partition) }
+        ensures model { (self.new.inner ≡ self.old.inner) × (self.new.failed ≡ self.old.failed) }
+        ensures wider { (string_capacity self.old.room.path ≤ string_capacity self.new.room.path)
+            × (string_capacity self.old.room.line ≤ string_capacity self.new.room.line) }
+    {
+        self.look_at_cpus(group);
+        if self.partition {
+            compare_partition(&mut self.files, &mut self.room, self.root.as_str());
+        }
+    }
+
+    /// Looks whether a group has in effect the CPUs that the model says.
+    fn look_at_cpus(&mut self, group: Group)
         requires path { HasRoom (string_capacity self.old.room.path) (string_bytes self.old.root) self.old.inner.tree }
         requires line { LINE_ROOM ≤ string_capacity self.old.room.line }
         requires there { has_group self.old.inner.tree group ≡ true }
@@ -185,7 +225,8 @@ impl<F: GroupFiles> Mirror<F> {
             ++ (folder self.old.inner.tree group ++ cpus_in_effect))
             (list_line (effective_cpus self.old.inner.tree group))) ∷ []) self.new.files }
         ensures same { (self.new.root ≡ self.old.root) × (self.new.memory ≡ self.old.memory)
-            × (self.new.inner ≡ self.old.inner) × (self.new.failed ≡ self.old.failed) }
+            × (self.new.partition ≡ self.old.partition) }
+        ensures model { (self.new.inner ≡ self.old.inner) × (self.new.failed ≡ self.old.failed) }
         ensures wider { (string_capacity self.old.room.path ≤ string_capacity self.new.room.path)
             × (string_capacity self.old.room.line ≤ string_capacity self.new.room.line) }
     {
@@ -213,7 +254,8 @@ impl<F: GroupFiles> Mirror<F> {
             (Written (string_bytes self.old.root
             ++ (folder self.old.inner.tree group ++ mems_file)) (list_line (granted mems self.old.memory))) result
             self.new.files }
-        ensures same { (self.new.root ≡ self.old.root) × (self.new.memory ≡ self.old.memory) }
+        ensures same { (self.new.root ≡ self.old.root) × (self.new.memory ≡ self.old.memory)
+            × (self.new.partition ≡ self.old.partition) }
         ensures wider { (string_capacity self.old.room.path ≤ string_capacity self.new.room.path)
             × (string_capacity self.old.room.line ≤ string_capacity self.new.room.line) }
     {
@@ -239,7 +281,8 @@ impl<F: GroupFiles> Mirror<F> {
         ensures case { Spawns (mirrored self.old.failed.writes self.old.inner) group result
             (mirrored self.new.failed.writes self.new.inner) }
         ensures same { (self.new.root ≡ self.old.root) × (self.new.memory ≡ self.old.memory)
-            × (self.new.files ≡ self.old.files) }
+            × (self.new.partition ≡ self.old.partition) }
+        ensures files { self.new.files ≡ self.old.files }
         ensures room { self.new.room ≡ self.old.room }
     {
         self.inner.spawn(group)
@@ -253,7 +296,8 @@ impl<F: GroupFiles> Mirror<F> {
         ensures asks { MirrorsAt F.asked self.old.files (place_of self.old.inner.tree group)
             (Written (string_bytes self.old.root
             ++ (folder self.old.inner.tree group ++ kill_file)) kill_line) result self.new.files }
-        ensures same { (self.new.root ≡ self.old.root) × (self.new.memory ≡ self.old.memory) }
+        ensures same { (self.new.root ≡ self.old.root) × (self.new.memory ≡ self.old.memory)
+            × (self.new.partition ≡ self.old.partition) }
         ensures wider { (string_capacity self.old.room.path ≤ string_capacity self.new.room.path)
             × (string_capacity self.old.room.line ≤ string_capacity self.new.room.line) }
     {
@@ -275,7 +319,8 @@ impl<F: GroupFiles> Mirror<F> {
         ensures case { Forks (mirrored self.old.failed.writes self.old.inner) parent result
             (mirrored self.new.failed.writes self.new.inner) }
         ensures same { (self.new.root ≡ self.old.root) × (self.new.memory ≡ self.old.memory)
-            × (self.new.files ≡ self.old.files) }
+            × (self.new.partition ≡ self.old.partition) }
+        ensures files { self.new.files ≡ self.old.files }
         ensures room { self.new.room ≡ self.old.room }
     {
         self.inner.fork(parent)
@@ -286,7 +331,8 @@ impl<F: GroupFiles> Mirror<F> {
         ensures case { Exits (mirrored self.old.failed.writes self.old.inner) pid result
             (mirrored self.new.failed.writes self.new.inner) }
         ensures same { (self.new.root ≡ self.old.root) × (self.new.memory ≡ self.old.memory)
-            × (self.new.files ≡ self.old.files) }
+            × (self.new.partition ≡ self.old.partition) }
+        ensures files { self.new.files ≡ self.old.files }
         ensures room { self.new.room ≡ self.old.room }
     {
         self.inner.exit(pid)
@@ -297,7 +343,8 @@ impl<F: GroupFiles> Mirror<F> {
         ensures case { GoesOffline (mirrored self.old.failed.writes self.old.inner) cpu result
             (mirrored self.new.failed.writes self.new.inner) }
         ensures same { (self.new.root ≡ self.old.root) × (self.new.memory ≡ self.old.memory)
-            × (self.new.files ≡ self.old.files) }
+            × (self.new.partition ≡ self.old.partition) }
+        ensures files { self.new.files ≡ self.old.files }
         ensures room { self.new.room ≡ self.old.room }
     {
         self.inner.offline(cpu)
@@ -308,7 +355,8 @@ impl<F: GroupFiles> Mirror<F> {
         ensures case { ComesOnline (mirrored self.old.failed.writes self.old.inner) cpu result
             (mirrored self.new.failed.writes self.new.inner) }
         ensures same { (self.new.root ≡ self.old.root) × (self.new.memory ≡ self.old.memory)
-            × (self.new.files ≡ self.old.files) }
+            × (self.new.partition ≡ self.old.partition) }
+        ensures files { self.new.files ≡ self.old.files }
         ensures room { self.new.room ≡ self.old.room }
     {
         self.inner.online_cpu(cpu)

@@ -8,8 +8,8 @@ ghost use Rattle.cgroup_tree.specs.Asked.{Compared, Made, Removed, Unmade, Writt
 ghost use Rattle.cgroup_tree.specs.Events.{IsMirrored};
 ghost use Rattle.cgroup_tree.specs.Site.{Begins, opening};
 ghost use Rattle.cgroup_tree.specs.Stands.{FilesStand};
-ghost use Rattle.cgroup_tree.specs.Mirrored.{mirrored, Mirrors, MirrorsAt, MirrorsBoth, MirrorsLook};
-ghost use Rattle.cgroup_tree.specs.Mirrored.{IsNamed};
+ghost use Rattle.cgroup_tree.specs.Mirrored.{mirrored, Mirrors, MirrorsAt, MirrorsBoth};
+ghost use Rattle.cgroup_tree.specs.Mirrored.{IsNamed, MirrorsLooks, looks_behind};
 ghost use Rattle.cgroup_tree.specs.Paths.{folder, below, list_line, cpus_file, mems_file, kill_file, controls_file};
 ghost use Rattle.cgroup_tree.specs.Paths.{cpus_in_effect, kill_line, controls_line};
 
@@ -55,42 +55,47 @@ impl<F: GroupFiles, S: Sited> Model for MirroredKernel<F, S> {
     ghost view = { λ k. record {
       root = string_bytes k.mirror.root;
       memory = k.mirror.memory;
+      partition = k.mirror.partition;
       inner = k.mirror.inner;
       failed = k.mirror.failed.writes;
       files = k.mirror.files;
     } };
 
     ghost invariant = { λ k. IsMirroredAt F.asked S.site (string_bytes k.mirror.root) k.mirror.memory
-        (mirrored k.mirror.failed.writes k.mirror.inner) k.mirror.files
+        k.mirror.partition (mirrored k.mirror.failed.writes k.mirror.inner) k.mirror.files
         × HasRoom (string_capacity k.mirror.room.path) (string_bytes k.mirror.root) k.mirror.inner.tree
         × (LINE_ROOM ≤ string_capacity k.mirror.room.line) };
 }
 
 impl<F: GroupFiles, S: Sited> MirroredKernel<F, S> {
     /// The kernel over these files, of which nothing was asked yet, the root group's folder at this path; with room in
-    /// which its paths and lines are made.
+    /// which its paths and lines are made. With `partition` the root has to be a partition root: behind each write of
+    /// CPUs it is looked at whether it still is.
     pub fn new(
         inner: ModelKernel,
         root: String,
         memory: IdSet,
+        partition: bool,
         files: F,
         room: Room,
     ) -> MirroredKernel<F, S>
         requires first { Begins S.site.first inner }
         requires root { string_bytes root ≡ S.site.root }
         requires memory { memory ≡ S.site.memory }
+        requires partition { partition ≡ S.site.partition }
         requires unasked { F.asked files (opening S.site) [] }
         requires path { length (string_bytes root) + FILE_ROOM ≤ string_capacity room.path }
         requires line { LINE_ROOM ≤ string_capacity room.line }
         ensures inner { result.inner ≡ inner }
         ensures root { result.root ≡ string_bytes root }
         ensures memory { result.memory ≡ memory }
+        ensures partition { result.partition ≡ partition }
         ensures files { result.files ≡ files }
         ensures failed { result.failed ≡ 0 }
     {
         inner.root();
         MirroredKernel {
-            mirror: Mirror::new(inner, root, memory, files, room),
+            mirror: Mirror::new(inner, root, memory, partition, files, room),
             site: PhantomData,
         }
     }
@@ -100,6 +105,7 @@ impl<F: GroupFiles, S: Sited> MirroredKernel<F, S> {
         ensures mirrored { IsMirrored F.asked S.site (mirrored self.now.failed self.now.inner) self.now.files }
         ensures root { self.now.root ≡ S.site.root }
         ensures memory { self.now.memory ≡ S.site.memory }
+        ensures partition { self.now.partition ≡ S.site.partition }
     {
         let _ = &self.mirror;
     }
@@ -146,10 +152,11 @@ impl<F: GroupFiles, S: Sited> Kernel for MirroredKernel<F, S> {
     fn write_cpus(&mut self, group: Group, cpus: IdSet) -> Result<(), KernelFault>
         ensures case { WritesCpus (mirrored self.old.failed self.old.inner) group cpus result
             (mirrored self.new.failed self.new.inner) }
-        ensures asks { MirrorsLook F.asked self.old.files
+        ensures asks { MirrorsLooks F.asked self.old.files
             (Written (self.old.root ++ (folder self.old.inner.tree group ++ cpus_file)) (list_line cpus))
+            (looks_behind self.old.partition self.old.root
             (Compared (self.old.root ++ (folder self.new.inner.tree group ++ cpus_in_effect))
-            (list_line (effective_cpus self.new.inner.tree group))) result self.new.files }
+            (list_line (effective_cpus self.new.inner.tree group)))) result self.new.files }
     {
         self.mirror.write_cpus(group, cpus)
     }

@@ -1,12 +1,12 @@
 //! The paths of a group's folder and of its files.
-ghost use Rattle.std.specs.Prelude.{◌≡◌, ◌↔◌, ◌+◌, ◌≤◌, ◌++◌, IsTrue, OnOk, length, string_bytes};
+ghost use Rattle.std.specs.Prelude.{◌≡◌, ◌↔◌, ◌+◌, ◌≤◌, ◌++◌, IfOk, IsTrue, OnOk, length, string_bytes};
 ghost use Rattle.std.specs.List.{list_any};
 ghost use Rattle.std.specs.String.{string_capacity, string_len};
 ghost use Rattle.cgroup_tree.specs.Paths.{folder, below, is_slash, IsName};
 
 use crate::room::FILE_ROOM;
 use kernel_model::{Group, Kernel, ModelKernel};
-use std::alloc::AllocError;
+use std::alloc::{AllocError, Global};
 
 /// Puts a text behind another one, in the room that this has.
 pub fn push_within(text: &mut String, more: &str)
@@ -18,6 +18,18 @@ pub fn push_within(text: &mut String, more: &str)
     if text.push_str(more).is_err() {
         unreachable!()
     }
+}
+
+/// The path of a file in a folder.
+///
+/// # Errors
+/// An allocation failure.
+pub fn path_below(alloc: Global, root: &str, file: &str) -> Result<String, AllocError>
+    ensures { IfOk result (λ path. string_bytes path ≡ root.now ++ file.now) }
+{
+    let mut path = String::from_str(alloc, root)?;
+    path.push_str(file)?;
+    Ok(path)
 }
 
 /// Puts the folder of a group below the root's behind a text: the names on the way to it, each behind a slash.

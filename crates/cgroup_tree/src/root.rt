@@ -1,5 +1,5 @@
 //! A tree is opened, and what its root has to be before that.
-ghost use Rattle.std.specs.Prelude.{◌≡◌, ◌≢◌, ◌++◌, ◌↔◌, [], ◌∷◌, IfErr, IfOk, IsTrue, MatchOption, MatchResult, None, OnOk};
+ghost use Rattle.std.specs.Prelude.{◌≡◌, ◌≢◌, ◌↔◌, [], ◌∷◌, IfErr, IfOk, IsTrue, MatchOption, MatchResult, None, OnOk};
 ghost use Rattle.std.specs.Prelude.{List, if◌then◌else◌, string_bytes, true};
 ghost use Rattle.std.specs.FinSet as set;
 ghost use Rattle.std.specs.IoError.{error_kind};
@@ -11,9 +11,11 @@ ghost use Rattle.cgroup_tree.specs.Roots.{LooksAtControllers, LooksAtCpus, Looks
 ghost use Rattle.cgroup_tree.specs.Roots.{LooksAtMems, MachineTells, MemsTell, RootTells, TellsOthers, TellsUnlessNone};
 ghost use Rattle.cgroup_tree.specs.Roots.{names_cpuset, remark_of};
 
+use crate::partition::look_at_partition;
+use crate::paths::path_below;
 use crate::{Difference, GroupTrees, RootFault};
 use cpu_set::{CPU_LIMIT, IdSet};
-use std::alloc::{AllocError, Global};
+use std::alloc::Global;
 use std::io;
 use std::io::ErrorKind;
 
@@ -27,6 +29,16 @@ const MEMS_IN_EFFECT: &str = "/cpuset.mems.effective";
 /// The group of all containers.
 const GROUP: &str = "/numarun";
 
+/// How a tree is opened.
+#[derive(Clone, Copy, Debug)]
+pub struct RootOptions {
+    /// Whether folders of a run before may be there.
+    pub adopt: bool,
+    /// Whether the root has to be a partition root (cgroup v2, `cpuset.cpus.partition`), so that the kernel keeps the
+    /// rest of the host off its CPUs.
+    pub partition: bool,
+}
+
 /// A cgroup v2 tree that is open.
 #[derive(Drop)]
 pub struct OpenTree<F> {
@@ -34,8 +46,8 @@ pub struct OpenTree<F> {
     pub root: String,
     /// The nodes that have memory.
     pub memory: IdSet,
-    /// Whether folders of a run before may be there.
-    pub adopt: bool,
+    /// How it was opened.
+    pub options: RootOptions,
     /// Its files.
     pub files: F,
 }
@@ -46,68 +58,72 @@ pub struct OpenTree<F> {
 ///
 /// # Errors
 /// In this order: [`RootFault::Unread`] where the root is no folder, [`RootFault::Taken`] or [`RootFault::Unlocked`],
-/// [`RootFault::NoCpuset`], [`RootFault::OtherMachine`]; and `Unread` or `Memory` where a file can't be read.
+/// [`RootFault::NoCpuset`], [`RootFault::OtherMachine`], with `partition` [`RootFault::NoPartition`]; and `Unread` or
+/// `Memory` where a file can't be read.
 pub fn open_tree<T: GroupTrees>(
     alloc: Global,
     trees: &mut T,
     root: &str,
     online: &IdSet,
     nodes: &IdSet,
-    adopt: bool,
+    options: RootOptions,
 ) -> Result<OpenTree<T::Files>, RootFault>
-    // It answers the nodes that have memory, or the first look at the root that is against it (`AnswersRoot`). The five
-    // looks are whether it is a folder, whether another program has it, its controllers, its CPUs in effect and its
-    // nodes in effect.
+    // It answers the nodes that have memory, or the first look at the root that is against it (`AnswersRoot`). The six
+    // looks are whether it is a folder, whether another program has it, its controllers, its CPUs in effect, its nodes
+    // in effect and, with `partition`, whether it is a partition root.
     ensures answers { MatchResult result
-        (λ tree. AnswersRoot (T.finds trees.old) root.now online.now nodes.now (Ok tree.memory))
-        (λ why. AnswersRoot (T.finds trees.old) root.now online.now nodes.now (Err why)) }
+        (λ tree. AnswersRoot (T.finds trees.old) root.now online.now nodes.now options.partition (Ok tree.memory))
+        (λ why. AnswersRoot (T.finds trees.old) root.now online.now nodes.now options.partition (Err why)) }
     ensures root { IfOk result (λ tree. string_bytes tree.root ≡ root.now) }
-    ensures adopt { IfOk result (λ tree. tree.adopt ≡ adopt) }
+    ensures options { IfOk result (λ tree. tree.options ≡ options) }
     // Nothing was asked of its files yet, which were opened as it is told to, and hold the root's own lock.
     ensures unasked { IfOk result (λ tree. T.Files.asked tree.files (record {
-      adopt = adopt;
+      adopt = options.adopt;
       locked = root.now;
     }) []) }
-    // Of the trees nothing was asked but to keep other programs from this root, and to tell what was found there
-    // (`RootTells`). If the root is refused, no files are out.
+    // Of the trees nothing was asked but to keep other programs from this root and, with `adopt`, to name the folders
+    // of a run before (`RootTells`). The files are handed out.
     ensures taken { IfOk result (λ tree. (asked : List Asked)
-        × RootTells (T.finds trees.old) root.now online.now nodes.now adopt (Ok tree.memory) asked
+        × RootTells (T.finds trees.old) root.now online.now nodes.now options.adopt (Ok tree.memory) asked
         × HandsOut T.asked trees.old asked trees.new) }
+    // If it is refused, nothing was asked but its lock and what is told of it (`RootTells`), and no files are handed
+    // out.
     ensures refused { IfErr result (λ why. AsksSome T.asked trees.old
-        (RootTells (T.finds trees.old) root.now online.now nodes.now adopt (Err why)) trees.new) }
+        (RootTells (T.finds trees.old) root.now online.now nodes.now options.adopt (Err why)) trees.new) }
 {
     look_at_folder(trees, root)?;
     let text = String::from_str(alloc, root)?;
     let lock = lock_root(trees, root)?;
-    let memory = memory_of(alloc, trees, root, online, nodes, adopt)?;
+    let memory = memory_of(alloc, trees, root, online, nodes, options)?;
     Ok(OpenTree {
         root: text,
         memory,
-        adopt,
-        files: trees.files(lock, adopt),
+        options,
+        files: trees.files(lock, options.adopt),
     })
 }
 
 /// The nodes that have memory, of a machine whose online CPUs and whose nodes are these: those in effect at a root that
-/// is had, or all of them where that is not told. With `adopt` each folder that is there already is named to the
-/// operator.
+/// is had, or all of them where that is not told. It is a partition root if it has to be. With `adopt` each folder that
+/// is there already is named to the operator.
 fn memory_of<T: GroupTrees>(
     alloc: Global,
     trees: &mut T,
     root: &str,
     online: &IdSet,
     nodes: &IdSet,
-    adopt: bool,
+    options: RootOptions,
 ) -> Result<IdSet, RootFault>
-    ensures looks { LooksAtMachine (T.finds trees.old) root.now online.now nodes.now result }
+    ensures looks { LooksAtMachine (T.finds trees.old) root.now online.now nodes.now options.partition result }
     ensures tells { AsksSome T.asked trees.old
-        (MachineTells (T.finds trees.old) root.now online.now nodes.now adopt result) trees.new }
+        (MachineTells (T.finds trees.old) root.now online.now nodes.now options.adopt result) trees.new }
 {
     look_at_controllers(alloc, trees, root)?;
     let group = path_below(alloc, root, GROUP)?;
     look_at_cpus(alloc, trees, root, online)?;
     let memory = look_at_mems(alloc, trees, root, nodes)?;
-    name_strangers(alloc, trees, group.as_str(), adopt);
+    look_at_partition(alloc, trees, root, options.partition)?;
+    name_strangers(alloc, trees, group.as_str(), options.adopt);
     Ok(memory)
 }
 
@@ -197,6 +213,7 @@ fn look_at_mems<T: GroupTrees>(
 ) -> Result<IdSet, RootFault>
     ensures looks { LooksAtMems (T.finds trees.old) root.now nodes.now result }
     ensures tells { AsksSome T.asked trees.old (MemsTell (T.finds trees.old) root.now nodes.now result) trees.new }
+    ensures same { OnOk result (trees.new ≡ trees.old) }
 {
     let path = path_below(alloc, root, MEMS_IN_EFFECT)?;
     let Some(text) = trees.read(alloc, path.as_str())? else {
@@ -238,14 +255,6 @@ fn tell_unless_none<T: GroupTrees>(
         return;
     }
     trees.tell(path, difference);
-}
-
-fn path_below(alloc: Global, root: &str, file: &str) -> Result<String, AllocError>
-    ensures { IfOk result (λ path. string_bytes path ≡ root.now ++ file.now) }
-{
-    let mut path = String::from_str(alloc, root)?;
-    path.push_str(file)?;
-    Ok(path)
 }
 
 /// The set that a file's text names, if it is a list.

@@ -35,4 +35,4 @@ module _ {F : Type 0} (asked : F → Opening → List Asked → Type 0) (site : 
         → ScriptsMirroredAt out err old new status asked m site Then finds told script script'
     leaves_more (inl (n, boots, (mid, end, (final, ends, (its, leaves)), same, finishes))) =
         inl (n, boots, (mid, end, (final, ends, (its, follows its.mirrored.calls leaves)), same, finishes))
-    leaves_more (inr (error, boots, says)) = inr (error, boots_not_more m error boots, says)
+    leaves_more (inr (error, boots, says, unread)) = inr (error, boots_not_more m error boots, says, unread)

@@ -11,7 +11,7 @@ use Rattle.clap.specs.declared.error.kind.ErrorKind.TheVariants.{MissingRequired
 use Rattle.cli.specs.Asked.{Asked, asked_by, asked_for, asked_in, run}
 use Rattle.cli.specs.CommandLine.{numarun, run_command}
 use Rattle.cli.specs.Mistakes.{lacking, mistakes}
-use Rattle.cli.specs.Spellings.{IsPlain, RunSpellings, Spells}
+use Rattle.cli.specs.Spellings.{IsPlain, RunSpellings, Spells, opened}
 use Rattle.cli.proofs.ReadWords.{Reads, lacked, no_dashes, spelled}
 
 or_none : (kinds : Kinds) → or_else kinds [] ≡ kinds
@@ -142,40 +142,40 @@ spells : (words : List Text) (end : Walk) (wanted : Asked) → Walks start words
     → faults_behind end ≡ [] → lacking wanted ≡ [] → Spells (codes "run" ∷ words) wanted
 spells words end wanted walks same right enough = spelled (codes "run") words wanted enough (read words end wanted walks same right)
 
-run_machine : (word : Text) → IsPlain word → Spells (codes "run" ∷ word ∷ []) (run word None None false)
+run_machine : (word : Text) → IsPlain word → Spells (codes "run" ∷ word ∷ []) (run word None None (opened false false))
 unfolding clap_on_literals
 run_machine word plain = spells (word ∷ []) _ _ (by_plain _ _ _ _ word _ plain refl (at_end _)) refl refl refl
 
-run_escaped : (word : Text) → Spells (codes "run" ∷ codes "--" ∷ word ∷ []) (run word None None false)
+run_escaped : (word : Text) → Spells (codes "run" ∷ codes "--" ∷ word ∷ []) (run word None None (opened false false))
 unfolding clap_on_literals
 run_escaped word = record { asks = refl; right = refl }
 
-run_slit_behind : (word table : Text) → IsPlain word → IsPlain table → Spells (codes "run" ∷ word ∷ codes "--slit" ∷ table ∷ []) (run word (Some table) None false)
+run_slit_behind : (word table : Text) → IsPlain word → IsPlain table → Spells (codes "run" ∷ word ∷ codes "--slit" ∷ table ∷ []) (run word (Some table) None (opened false false))
 unfolding clap_on_literals
 run_slit_behind word table plain plain' =
     spells (word ∷ codes "--slit" ∷ table ∷ []) _ _
     (by_plain _ _ _ _ word _ plain refl (by_word _ _ _ (codes "--slit") _ refl refl (by_plain _ _ _ _ table _ plain' refl (at_end _)))) refl refl refl
 
-run_slit_before : (word table : Text) → IsPlain word → IsPlain table → Spells (codes "run" ∷ codes "--slit" ∷ table ∷ word ∷ []) (run word (Some table) None false)
+run_slit_before : (word table : Text) → IsPlain word → IsPlain table → Spells (codes "run" ∷ codes "--slit" ∷ table ∷ word ∷ []) (run word (Some table) None (opened false false))
 unfolding clap_on_literals
 run_slit_before word table plain plain' =
     spells (codes "--slit" ∷ table ∷ word ∷ []) _ _
     (by_word _ _ _ (codes "--slit") _ refl refl (by_plain _ _ _ _ table _ plain' refl (by_plain _ _ _ _ word _ plain refl (at_end _)))) refl refl refl
 
-run_cgroup_behind : (word root : Text) → IsPlain word → IsPlain root → Spells (codes "run" ∷ word ∷ codes "--cgroup" ∷ root ∷ []) (run word None (Some root) false)
+run_cgroup_behind : (word root : Text) → IsPlain word → IsPlain root → Spells (codes "run" ∷ word ∷ codes "--cgroup" ∷ root ∷ []) (run word None (Some root) (opened false false))
 unfolding clap_on_literals
 run_cgroup_behind word root plain plain' =
     spells (word ∷ codes "--cgroup" ∷ root ∷ []) _ _
     (by_plain _ _ _ _ word _ plain refl (by_word _ _ _ (codes "--cgroup") _ refl refl (by_plain _ _ _ _ root _ plain' refl (at_end _)))) refl refl refl
 
-run_cgroup_before : (word root : Text) → IsPlain word → IsPlain root → Spells (codes "run" ∷ codes "--cgroup" ∷ root ∷ word ∷ []) (run word None (Some root) false)
+run_cgroup_before : (word root : Text) → IsPlain word → IsPlain root → Spells (codes "run" ∷ codes "--cgroup" ∷ root ∷ word ∷ []) (run word None (Some root) (opened false false))
 unfolding clap_on_literals
 run_cgroup_before word root plain plain' =
     spells (codes "--cgroup" ∷ root ∷ word ∷ []) _ _
     (by_word _ _ _ (codes "--cgroup") _ refl refl (by_plain _ _ _ _ root _ plain' refl (by_plain _ _ _ _ word _ plain refl (at_end _)))) refl refl refl
 
 run_adopt_behind : (word root : Text) → IsPlain word → IsPlain root
-    → Spells (codes "run" ∷ word ∷ codes "--cgroup" ∷ root ∷ codes "--adopt" ∷ []) (run word None (Some root) true)
+    → Spells (codes "run" ∷ word ∷ codes "--cgroup" ∷ root ∷ codes "--adopt" ∷ []) (run word None (Some root) (opened true false))
 unfolding clap_on_literals
 run_adopt_behind word root plain plain' =
     spells (word ∷ codes "--cgroup" ∷ root ∷ codes "--adopt" ∷ []) _ _
@@ -183,35 +183,59 @@ run_adopt_behind word root plain plain' =
     (by_word _ _ _ (codes "--adopt") _ refl refl (at_end _))))) refl refl refl
 
 run_adopt_before : (word root : Text) → IsPlain word → IsPlain root
-    → Spells (codes "run" ∷ codes "--adopt" ∷ codes "--cgroup" ∷ root ∷ word ∷ []) (run word None (Some root) true)
+    → Spells (codes "run" ∷ codes "--adopt" ∷ codes "--cgroup" ∷ root ∷ word ∷ []) (run word None (Some root) (opened true false))
 unfolding clap_on_literals
 run_adopt_before word root plain plain' =
     spells (codes "--adopt" ∷ codes "--cgroup" ∷ root ∷ word ∷ []) _ _
     (by_word _ _ _ (codes "--adopt") _ refl refl (by_word _ _ _ (codes "--cgroup") _ refl refl (by_plain _ _ _ _ root _ plain' refl
     (by_plain _ _ _ _ word _ plain refl (at_end _))))) refl refl refl
 
+run_partition_behind : (word root : Text) → IsPlain word → IsPlain root
+    → Spells (codes "run" ∷ word ∷ codes "--cgroup" ∷ root ∷ codes "--partition" ∷ []) (run word None (Some root) (opened false true))
+unfolding clap_on_literals
+run_partition_behind word root plain plain' =
+    spells (word ∷ codes "--cgroup" ∷ root ∷ codes "--partition" ∷ []) _ _
+    (by_plain _ _ _ _ word _ plain refl (by_word _ _ _ (codes "--cgroup") _ refl refl (by_plain _ _ _ _ root _ plain' refl
+    (by_word _ _ _ (codes "--partition") _ refl refl (at_end _))))) refl refl refl
+
+run_partition_before : (word root : Text) → IsPlain word → IsPlain root
+    → Spells (codes "run" ∷ codes "--partition" ∷ codes "--cgroup" ∷ root ∷ word ∷ []) (run word None (Some root) (opened false true))
+unfolding clap_on_literals
+run_partition_before word root plain plain' =
+    spells (codes "--partition" ∷ codes "--cgroup" ∷ root ∷ word ∷ []) _ _
+    (by_word _ _ _ (codes "--partition") _ refl refl (by_word _ _ _ (codes "--cgroup") _ refl refl (by_plain _ _ _ _ root _ plain' refl
+    (by_plain _ _ _ _ word _ plain refl (at_end _))))) refl refl refl
+
 run_all : (word table root : Text) → IsPlain word → IsPlain table → IsPlain root
-    → Spells (codes "run" ∷ word ∷ codes "--slit" ∷ table ∷ codes "--cgroup" ∷ root ∷ codes "--adopt" ∷ []) (run word (Some table) (Some root) true)
+    → Spells (codes "run" ∷ word ∷ codes "--slit" ∷ table ∷ codes "--cgroup" ∷ root ∷ codes "--adopt" ∷ codes "--partition" ∷ [])
+    (run word (Some table) (Some root) (opened true true))
 unfolding clap_on_literals
 run_all word table root plain plain' plain'' =
-    spells (word ∷ codes "--slit" ∷ table ∷ codes "--cgroup" ∷ root ∷ codes "--adopt" ∷ []) _ _
+    spells (word ∷ codes "--slit" ∷ table ∷ codes "--cgroup" ∷ root ∷ codes "--adopt" ∷ codes "--partition" ∷ []) _ _
     (by_plain _ _ _ _ word _ plain refl (by_word _ _ _ (codes "--slit") _ refl refl (by_plain _ _ _ _ table _ plain' refl
-    (by_word _ _ _ (codes "--cgroup") _ refl refl (by_plain _ _ _ _ root _ plain'' refl (by_word _ _ _ (codes "--adopt") _ refl refl (at_end _))))))) refl refl refl
+    (by_word _ _ _ (codes "--cgroup") _ refl refl (by_plain _ _ _ _ root _ plain'' refl (by_word _ _ _ (codes "--adopt") _ refl refl
+    (by_word _ _ _ (codes "--partition") _ refl refl (at_end _)))))))) refl refl refl
 
 run_adopt_alone : (word : Text) → IsPlain word → mistakes (codes "run" ∷ word ∷ codes "--adopt" ∷ []) ≡ MissingRequiredArgument ∷ []
 unfolding clap_on_literals
 run_adopt_alone word plain =
-    lacked (codes "run") (word ∷ codes "--adopt" ∷ []) (run word None None true)
+    lacked (codes "run") (word ∷ codes "--adopt" ∷ []) (run word None None (opened true false))
     (read (word ∷ codes "--adopt" ∷ []) _ _ (by_plain _ _ _ _ word _ plain refl (by_word _ _ _ (codes "--adopt") _ refl refl (at_end _))) refl refl)
+
+run_partition_alone : (word : Text) → IsPlain word → mistakes (codes "run" ∷ word ∷ codes "--partition" ∷ []) ≡ MissingRequiredArgument ∷ []
+unfolding clap_on_literals
+run_partition_alone word plain =
+    lacked (codes "run") (word ∷ codes "--partition" ∷ []) (run word None None (opened false true))
+    (read (word ∷ codes "--partition" ∷ []) _ _ (by_plain _ _ _ _ word _ plain refl (by_word _ _ _ (codes "--partition") _ refl refl (at_end _))) refl refl)
 
 -- where nothing is wrong, nothing lacks
 none_behind : (kinds other : Kinds) → or_else kinds other ≡ [] → other ≡ []
 none_behind [] other none = none
 none_behind (k ∷ ks) other none = cc
 
-run_adopt_beside : (words : List Text) → mistakes words ≡ [] → lacking (asked_for words) ≡ []
-run_adopt_beside [] none = refl
-run_adopt_beside (word ∷ rest) none = none_behind (fault_of numarun (word ∷ rest)) (lacking (asked_for (word ∷ rest))) none
+run_flags_beside : (words : List Text) → mistakes words ≡ [] → lacking (asked_for words) ≡ []
+run_flags_beside [] none = refl
+run_flags_beside (word ∷ rest) none = none_behind (fault_of numarun (word ∷ rest)) (lacking (asked_for (word ∷ rest))) none
 
 pub run_spelled : RunSpellings
 run_spelled = record {
@@ -223,7 +247,10 @@ run_spelled = record {
   cgroup_before = run_cgroup_before;
   adopt_behind = run_adopt_behind;
   adopt_before = run_adopt_before;
+  partition_behind = run_partition_behind;
+  partition_before = run_partition_before;
   all = run_all;
   adopt_alone = run_adopt_alone;
-  adopt_beside = run_adopt_beside;
+  partition_alone = run_partition_alone;
+  flags_beside = run_flags_beside;
 }

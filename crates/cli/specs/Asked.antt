@@ -3,18 +3,19 @@
 use Rattle.std.specs.Borrow.{Bor}
 use Rattle.std.specs.Prelude.{Bool, Option, Some, None, List, [], ◌∷◌, codes, bytes_eq, if◌then◌else◌, option_map, unwrap_or}
 use Rattle.clap.specs.Words.{Row, Text, first_of, subcommand_of}
+use Rattle.cgroup_tree.specs.declared.RootOptions.{RootOptions}
 use Rattle.cli.specs.CommandLine.{numarun}
 use Rattle.cli.specs.declared.words.Words.{Words}
 use Rattle.cli.specs.declared.words.Words.TheVariants as words
 
 -- the check of a file, or of standard input; a list; the distance table in a file; a script over the machine of a file,
--- perhaps with a distance table in another, perhaps below the root of a cgroup tree, which may have folders already; the
--- solution of the problem in a file, or on standard input
+-- perhaps with a distance table in another, perhaps below the root of a cgroup tree, which is opened so; the solution of the
+-- problem in a file, or on standard input
 pub data Asked : Type 0 where
   check : Option Text → Asked
   list : Text → Asked
   slit : Text → Asked
-  run : Text → Option Text → Option Text → Bool → Asked
+  run : Text → Option Text → Option Text → RootOptions → Asked
   solve : Option Text → Asked
 
 -- the text of a word
@@ -26,7 +27,7 @@ abbrev pub asked : Words → Asked
 asked (words.Check file) = check (option_map word_bytes file)
 asked (words.List text) = list text.now
 asked (words.Slit file) = slit file.now
-asked (words.Run machine table root adopt) = run machine.now (option_map word_bytes table) (option_map word_bytes root) adopt
+asked (words.Run machine table root options) = run machine.now (option_map word_bytes table) (option_map word_bytes root) options
 asked (words.Solve file) = solve (option_map word_bytes file)
 
 -- the value of an argument that has to be given
@@ -37,12 +38,16 @@ value id rows = unwrap_or (first_of id rows) []
 abbrev pub is_set : Text → List Row → Bool
 is_set id rows = bytes_eq (value id rows) (codes "true")
 
+-- how the tree is opened: each flag by itself
+abbrev pub options_of : List Row → RootOptions
+options_of rows = record { adopt = is_set (codes "adopt") rows; partition = is_set (codes "partition") rows }
+
 -- what a subcommand of this name asks for with these values of its arguments
 abbrev pub asked_by : Text × List Row → Asked
 asked_by given =
     if bytes_eq given.0 (codes "list") then list (value (codes "text") given.1)
     else if bytes_eq given.0 (codes "slit") then slit (value (codes "file") given.1)
-    else if bytes_eq given.0 (codes "run") then run (value (codes "machine") given.1) (first_of (codes "slit") given.1) (first_of (codes "cgroup") given.1) (is_set (codes "adopt") given.1)
+    else if bytes_eq given.0 (codes "run") then run (value (codes "machine") given.1) (first_of (codes "slit") given.1) (first_of (codes "cgroup") given.1) (options_of given.1)
     else if bytes_eq given.0 (codes "solve") then solve (first_of (codes "file") given.1)
     else check (first_of (codes "file") given.1)
 

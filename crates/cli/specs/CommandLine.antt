@@ -37,9 +37,9 @@ option id = record (placed id) { long = Some id }
 abbrev pub flag : Text → Rule
 flag id = record (new_rule id) { long = Some id; action = Some SetTrue }
 
--- run MACHINE [--slit FILE] [--cgroup ROOT] [--adopt]
+-- run MACHINE [--slit FILE] [--cgroup ROOT] [--adopt] [--partition]
 abbrev pub run_command : Shape
-run_command = command (codes "run") (required (codes "machine") ∷ option (codes "slit") ∷ option (codes "cgroup") ∷ flag (codes "adopt") ∷ [])
+run_command = command (codes "run") (required (codes "machine") ∷ option (codes "slit") ∷ option (codes "cgroup") ∷ flag (codes "adopt") ∷ flag (codes "partition") ∷ [])
 
 -- solve [FILE]
 abbrev pub solve_command : Shape

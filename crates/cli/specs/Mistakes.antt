@@ -1,6 +1,6 @@
 -- Which mistakes the words have.
--- From: `clap`'s own reading of a command line; that `--adopt` asks for `--cgroup` is ours.
-use Rattle.std.specs.Prelude.{◌≡◌, Bool, false, if◌then◌else◌, List, [], ◌∷◌, None}
+-- From: `clap`'s own reading of a command line; that `--adopt` and `--partition` ask for `--cgroup` is ours.
+use Rattle.std.specs.Prelude.{◌≡◌, ◌||◌, Bool, false, if◌then◌else◌, List, [], ◌∷◌, None}
 use Rattle.clap.specs.Kinds.{or_else}
 use Rattle.clap.specs.Words.{IsAmong, Kinds, Text, fault_of, kind_of, subcommand_of}
 use Rattle.clap.specs.declared.error.Error.{Error}
@@ -11,16 +11,16 @@ use Rattle.cli.specs.CommandLine.{numarun}
 use Rattle.faults.specs.declared.or_memory.OrMemory.{OrMemory}
 use Rattle.faults.specs.declared.or_memory.OrMemory.TheVariants.{Memory, Fault}
 
--- `--adopt` is given without `--cgroup`
+-- `--adopt` or `--partition` is given without `--cgroup`
 abbrev pub lacks_root : Asked → Bool
-lacks_root (run machine table None adopt) = adopt
+lacks_root (run machine table None options) = options.adopt || options.partition
 lacks_root asks = false
 
 -- why words that the builder's rules take are refused: an argument is wanting
 abbrev pub lacking : Asked → Kinds
 lacking asks = if lacks_root asks then kind.MissingRequiredArgument ∷ [] else []
 
--- why the grammar refuses words: by clap's rules, or since `--adopt` lacks its root
+-- why the grammar refuses words: by clap's rules, or since `--adopt` or `--partition` lacks its root
 abbrev pub refusals : List Text → Kinds
 refusals words = or_else (fault_of numarun words) (lacking (asked_in (subcommand_of numarun words)))
 

@@ -4,6 +4,7 @@ use Rattle.std.specs.declared.io.ErrorKind.{ErrorKind as SystemKind}
 use Rattle.cgroup_tree.specs.Asked.{Asked as FileCall, Asks, HandsBack, Opening}
 use Rattle.cgroup_tree.specs.Roots.{AnswersRoot, Finding, RootTells}
 use Rattle.cgroup_tree.specs.Site.{Site}
+use Rattle.cgroup_tree.specs.declared.RootOptions.{RootOptions}
 use Rattle.clap.specs.Words.{IsAmong, Text}
 use Rattle.clap.specs.declared.error.kind.ErrorKind.{ErrorKind}
 use Rattle.clap.specs.declared.error.kind.ErrorKind.TheVariants.{DisplayHelp, DisplayVersion, OutOfMemory}
@@ -83,21 +84,21 @@ module _ {W E : Type 0} (out : W → Option (List ℕ)) (err : E → Option (Lis
   RefusesRoot root why = Says out err old new status (root_line why) 1 (root_note root why)
 
   -- the script was run over a new node of the machine, whose kernel's writes are made in this place too; or its group can't
-  -- be made there. This holds of what the files were asked for.
+  -- be made there, and no byte of the script was read. This holds of what the files were asked for.
   abbrev pub ScriptsMirroredAt : {F : Type 0} → (F → Opening → List FileCall → Type 0) → Layout → Site → (List FileCall → Type 0) → (Text → Option Text → Type 0) → Told → Option (List ℕ) → Option (List ℕ) → Type 0
   ScriptsMirroredAt asked m site Leaves finds told script script' =
       ((n : NodeState) × Boots m n × PerformsMirrored asked site Leaves finds (2 ^ 64 - 1) n told script script')
-      ⊎ ((error : OrMemory KernelFault) × BootsNot asked site m error Leaves × Says out err old new status (root_line (unrooted_of error)) 1 [])
+      ⊎ ((error : OrMemory KernelFault) × BootsNot asked site m error Leaves × Says out err old new status (root_line (unrooted_of error)) 1 [] × (script' ≡ script))
 
   -- the files that may be opened under a name, the errors by which that may fail, and what the reading of one may answer
   module _ {I : Type 0} (opens : Text → I → Type 0) (fails : Text → SystemKind → Type 0) (gives : I → Reading → Type 0) where
-    -- what a run prints. The script was run over a new node of the machine of these files, or its allocation failed, or one
-    -- of the files is refused.
+    -- what a run prints. The script was run over a new node of the machine of these files; or its allocation failed, or one
+    -- of the files is refused, and no byte of the script was read.
     abbrev pub Scripts : (Text → Option Text → Type 0) → Told → Option (List ℕ) → Option (List ℕ) → Text → Option Text → Type 0
     Scripts sees told script script' machine table =
         ((m : Layout) × SetsUp opens fails gives machine table (Ok m)
-        × (((n : NodeState) × Boots m n × Performs sees MOST_READS n told script script') ⊎ LacksRoom))
-        ⊎ ((why : Unready) × SetsUp opens fails gives machine table (Err why) × Refuses machine table why)
+        × (((n : NodeState) × Boots m n × Performs sees MOST_READS n told script script') ⊎ (LacksRoom × (script' ≡ script))))
+        ⊎ ((why : Unready) × SetsUp opens fails gives machine table (Err why) × Refuses machine table why × (script' ≡ script))
 
     -- what the files of a cgroup tree were asked for, and what a look at a path may find; what was asked of trees, before and after
     module _ {F T : Type 0} (asked : F → Opening → List FileCall → Type 0) (finds : Text → Finding → Type 0) (asked_of : T → Bool → List FileCall → Type 0) (trees trees' : T) where
@@ -105,17 +106,17 @@ module _ {W E : Type 0} (out : W → Option (List ℕ)) (err : E → Option (Lis
       abbrev pub Unasked : Type 0
       Unasked = Asks asked_of trees [] trees'
 
-      -- the same as `Scripts` in a cgroup tree, below the root that is named, opened with folders of a run before or without;
-      -- or the root is refused. What was asked of trees is what the root was opened by, and then what the node's kernel asked
-      -- for; and where a file is refused nothing was asked.
-      abbrev pub ScriptsMirrored : (Text → Option Text → Type 0) → Told → Option (List ℕ) → Option (List ℕ) → Text → Option Text → Text → Bool → Type 0
-      ScriptsMirrored sees told script script' machine table root adopt =
+      -- the same as `Scripts` in a cgroup tree, below the root that is named, opened by these options; or the root is refused.
+      -- What was asked of trees is what the root was opened by, and then what the node's kernel asked for. If a file is refused
+      -- nothing was asked. If the root or a file is refused no byte of the script was read.
+      abbrev pub ScriptsMirrored : (Text → Option Text → Type 0) → Told → Option (List ℕ) → Option (List ℕ) → Text → Option Text → Text → RootOptions → Type 0
+      ScriptsMirrored sees told script script' machine table root options =
           ((m : Layout) × SetsUp opens fails gives machine table (Ok m)
-          × (((memory : Ids) × AnswersRoot finds root m.online (nodes_of m) (Ok memory)
-          × ((opened : List FileCall) × RootTells finds root m.online (nodes_of m) adopt (Ok memory) opened
-          × ScriptsMirroredAt asked m (site_of m root memory adopt) (λ calls. HandsBack asked_of trees (calls ++ opened) trees') sees told script script'))
-          ⊎ ((why : Unrooted) × IsNotRooted finds root adopt m why (λ calls. Asks asked_of trees calls trees') × RefusesRoot root why)))
-          ⊎ ((why : Unready) × SetsUp opens fails gives machine table (Err why) × Refuses machine table why × Unasked)
+          × (((memory : Ids) × AnswersRoot finds root m.online (nodes_of m) options.partition (Ok memory)
+          × ((opened : List FileCall) × RootTells finds root m.online (nodes_of m) options.adopt (Ok memory) opened
+          × ScriptsMirroredAt asked m (site_of m root memory options) (λ calls. HandsBack asked_of trees (calls ++ opened) trees') sees told script script'))
+          ⊎ ((why : Unrooted) × IsNotRooted finds root options m why (λ calls. Asks asked_of trees calls trees') × RefusesRoot root why × (script' ≡ script))))
+          ⊎ ((why : Unready) × SetsUp opens fails gives machine table (Err why) × Refuses machine table why × (script' ≡ script) × Unasked)
 
       -- what is asked for is done, over these files, these bundles, and what the reading of standard input may answer. Of trees
       -- nothing is asked, unless a script is run in one.
@@ -123,8 +124,8 @@ module _ {W E : Type 0} (out : W → Option (List ℕ)) (err : E → Option (Lis
       Does sees input script (check file) = Checks out err old new status (reads_named (Reads opens fails gives) input (name_of file)) (shown (name_of file)) × Unasked
       Does sees input script (list text) = Lists out err old new status text × Unasked
       Does sees input script (slit file) = Tabulates out err old new status (reads_named (Reads opens fails gives) input file) (shown file) × Unasked
-      Does sees input script (run machine table None adopt) = ((script' : Option (List ℕ)) × Scripts sees None script script' machine table) × Unasked
-      Does sees input script (run machine table (Some root) adopt) = (script' : Option (List ℕ)) × ScriptsMirrored sees None script script' machine table root adopt
+      Does sees input script (run machine table None options) = ((script' : Option (List ℕ)) × Scripts sees None script script' machine table) × Unasked
+      Does sees input script (run machine table (Some root) options) = (script' : Option (List ℕ)) × ScriptsMirrored sees None script script' machine table root options
       Does sees input script (solve file) = Solves out err old new status (reads_named (Reads opens fails gives) input (name_of file)) (shown (name_of file)) × Unasked
 
   -- the help or the version goes to standard output with status 0, and what a mistake is to standard error with

@@ -62,7 +62,9 @@ const RUN_HELP: &str =
     \x20 list                  the status of each container\n\
     \x20 sets ID               the CPUs and memory nodes that it has\n\
     \x20 rebalance             work out a plan and move all containers onto it\n\
+    \x20 rebalance direct      the same, each moved at once if nobody has its new CPUs\n\
     \x20 begin                 work out a plan and begin to move the containers onto it\n\
+    \x20 begin direct          the same, to be moved as by rebalance direct\n\
     \x20 step                  make the next write of that hand-over\n\
     \x20 phase                 whether a hand-over is underway\n\
     \x20 certificate           the certificate of the last plan or shortage\n\
@@ -86,7 +88,7 @@ const SOLVE_HELP: &str =
     Format: docs/formats.md, \"Problems\".\n\n\
     Example: numarun solve examples/caches.problem | numarun check";
 
-/// Said where `--adopt` is given without `--cgroup`.
+/// Said where `--adopt` or `--partition` is given without `--cgroup`.
 const LACKING: &str = "the following required arguments were not provided:\n  --cgroup <ROOT>";
 
 fn check<'a>(alloc: Global) -> Result<Command<'a>, AllocError>
@@ -169,17 +171,28 @@ fn adopt<'a>(alloc: Global) -> Arg<'a>
         .help("With --cgroup: ROOT/numarun may be there already")
 }
 
+fn partition<'a>(alloc: Global) -> Arg<'a>
+    ensures rule { rule_of result ≡ flag (codes "partition") }
+    ensures local { result.global ≡ false }
+{
+    Arg::new(alloc, "partition")
+        .long("partition")
+        .action(ArgAction::SetTrue)
+        .help("With --cgroup: ROOT has to be a partition root")
+}
+
 fn run<'a>(alloc: Global) -> Result<Command<'a>, AllocError>
     ensures { IfOk result (IsLeaf run_command) }
 {
     Command::new(alloc, "run")
         .about("Run the commands on standard input over a machine")
-        .override_usage("numarun run MACHINE [--slit FILE] [--cgroup ROOT [--adopt]]")
+        .override_usage("numarun run MACHINE [--slit FILE] [--cgroup ROOT [--adopt] [--partition]]")
         .after_help(RUN_HELP)
         .arg(machine(alloc))?
         .arg(table(alloc))?
         .arg(cgroup(alloc))?
-        .arg(adopt(alloc))
+        .arg(adopt(alloc))?
+        .arg(partition(alloc))
 }
 
 fn solve<'a>(alloc: Global) -> Result<Command<'a>, AllocError>
@@ -228,16 +241,16 @@ fn matched<'a>(alloc: Global, words: &'a [String]) -> Result<ArgMatches<'a>, Err
     command_line(alloc)?.try_get_matches_from(words)
 }
 
-/// Whether `--adopt` was given without `--cgroup`, a rule on two arguments.
+/// Whether `--adopt` or `--partition` was given without `--cgroup`, a rule on two arguments.
 fn lacks_root(matches: &ArgMatches<'_>) -> bool
     ensures { result ≡ lacks_root (asked_in (subcommand_rows_of matches.now)) }
 {
     match asked_words(matches) {
         Words::Run {
             cgroup: None,
-            adopt,
+            options,
             ..
-        } => adopt,
+        } => options.adopt || options.partition,
         _ => false,
     }
 }

@@ -16,7 +16,9 @@ use crate::note::Note;
 use crate::opens::Opens;
 use crate::run::{finish, refuse, set_up};
 use crate::unrooted::Unrooted;
-use cgroup_tree::{GroupFiles, GroupTrees, MirroredKernel, OpenTree, Sited, open_tree};
+use cgroup_tree::{
+    GroupFiles, GroupTrees, MirroredKernel, OpenTree, RootOptions, Sited, open_tree,
+};
 use machine::Machine;
 use node::Node;
 use runtime::{Bundles, Runner, boot_mirrored, files_of, run_mirrored};
@@ -30,8 +32,8 @@ use std::marker::Brand;
 pub struct Root<'a> {
     /// The path of its root.
     pub path: &'a str,
-    /// Whether the folders of a run before may be there.
-    pub adopt: bool,
+    /// How the tree is opened.
+    pub options: RootOptions,
 }
 
 /// Runs a script as [`do_run`](crate::do_run) does, and makes each kernel write below this root too. If one of the
@@ -49,16 +51,17 @@ pub fn do_run_mirrored<F: Opens, T: GroupTrees, B: Bundles + Drop, R: Read, W: W
 ) -> u8
     // It is the same as `do_run` in a cgroup tree, by 2^64 - 1 reads. Or it refuses its root, by what was found of it
     // (`IsNotRooted`), or the node's group can't be made there (`ScriptsMirroredAt`). At the end of a script its node
-    // is mirrored (`PlaysMirrored`), as `runtime` says it. Its place is below ROOT, in files opened with `--adopt` or
-    // without, with the nodes that were found to have memory. All that was asked of trees, when it returns, is what the
+    // is mirrored (`PlaysMirrored`), as `runtime` says it. Its place is below ROOT, in a tree opened by these options,
+    // with the nodes that were found to have memory. All that was asked of trees, when it returns, is what the
     // root was opened by (`RootTells`), and then what the node's kernel asked for. If the machine is refused nothing
-    // was asked; if the root is, no more than its lock and what is told of it. What the notes of the system's refusals
-    // are on standard error no clause says: they go past its page.
+    // was asked; if the root is, no more than its lock and what is told of it. Where either is refused, or the node's
+    // group can't be made, no byte of the script was read. What the notes of the system's refusals are on standard
+    // error no clause says: they go past its page.
     ensures { ScriptsMirrored W.contents E.contents console.old console.new result (F.opens files.now)
         (F.fails files.now) F.File.gives
         T.Files.asked (T.finds trees.old) T.asked trees.old trees.new B.finds (B.told bundles) (R.remaining script.old)
         (R.remaining script.new)
-        machine.now (option_map (λ name. name.now) table.entry) root.entry.path.now root.entry.adopt }
+        machine.now (option_map (λ name. name.now) table.entry) root.entry.path.now root.entry.options }
 {
     match set_up(alloc, machine, table, files) {
         Ok(found) => match open_below(alloc, &found, root, trees) {
@@ -80,20 +83,20 @@ fn open_below<T: GroupTrees>(
 ) -> Result<OpenTree<T::Files>, Unrooted>
     ensures answers { MatchResult result
         (λ tree. AnswersRoot (T.finds trees.old) root.entry.path.now machine.now.online (nodes_of machine.now)
-        (Ok tree.memory))
-        (λ why. IsNotRooted (T.finds trees.old) root.entry.path.now root.entry.adopt machine.now why
+        root.entry.options.partition (Ok tree.memory))
+        (λ why. IsNotRooted (T.finds trees.old) root.entry.path.now root.entry.options machine.now why
         (λ calls. Asks T.asked trees.old calls trees.new)) }
     ensures root { IfOk result (λ tree. string_bytes tree.root ≡ root.entry.path.now) }
-    ensures adopt { IfOk result (λ tree. tree.adopt ≡ root.entry.adopt) }
+    ensures options { IfOk result (λ tree. tree.options ≡ root.entry.options) }
     ensures unasked { IfOk result (λ tree. T.Files.asked tree.files
-        (record { adopt = tree.adopt; locked = string_bytes tree.root }) []) }
+        (record { adopt = tree.options.adopt; locked = string_bytes tree.root }) []) }
     ensures taken { IfOk result (λ tree. (opened : List Asked)
-        × RootTells (T.finds trees.old) root.entry.path.now machine.now.online (nodes_of machine.now) root.entry.adopt
+        × RootTells (T.finds trees.old) root.entry.path.now machine.now.online (nodes_of machine.now) root.entry.options.adopt
         (Ok tree.memory) opened
         × HandsOut T.asked trees.old opened trees.new) }
 {
     let (online, nodes) = (machine.boot_online(), machine.nodes());
-    match open_tree(alloc, trees, root.path, &online, &nodes, root.adopt) {
+    match open_tree(alloc, trees, root.path, &online, &nodes, root.options) {
         Ok(tree) => Ok(tree),
         Err(fault) => Err(Unrooted::from(fault)),
     }
@@ -110,11 +113,11 @@ fn run_mirrored_in<S: Sited, T: GroupTrees, B: Bundles + Drop, R: Read, W: Write
     script: &mut R,
     console: &mut Console<W, E>,
 ) -> u8
-    requires site { S.site ≡ site_of machine (string_bytes tree.root) tree.memory tree.adopt }
+    requires site { S.site ≡ site_of machine (string_bytes tree.root) tree.memory tree.options }
     requires unasked { T.Files.asked tree.files
-        (record { adopt = tree.adopt; locked = string_bytes tree.root }) [] }
+        (record { adopt = tree.options.adopt; locked = string_bytes tree.root }) [] }
     ensures { ScriptsMirroredAt W.contents E.contents console.old console.new result T.Files.asked machine
-        (site_of machine (string_bytes tree.root) tree.memory tree.adopt)
+        (site_of machine (string_bytes tree.root) tree.memory tree.options)
         (λ calls. Closes T.asked trees.old calls trees.new) B.finds (B.told bundles)
         (R.remaining script.old) (R.remaining script.new) }
 {

@@ -16,7 +16,7 @@ use crate::opens::Opens;
 use crate::run::do_run;
 use crate::solve::solve_named;
 use crate::words::{Grammar, Words, parse};
-use cgroup_tree::GroupTrees;
+use cgroup_tree::{GroupTrees, RootOptions};
 use clap::Error;
 use faults::OrMemory;
 use program_io::{Input, Refusal};
@@ -72,9 +72,9 @@ fn dispatch<F: Opens, T: GroupTrees, R: Read + Input, W: Write, E: Write>(
             machine,
             slit,
             cgroup,
-            adopt,
+            options,
         } => run_in(
-            alloc, machine, slit, cgroup, adopt, files, trees, input, console,
+            alloc, machine, slit, cgroup, options, files, trees, input, console,
         ),
         Words::Solve { file } => solve_named(alloc, file.unwrap_or("-"), files, input, console),
     }
@@ -86,7 +86,7 @@ fn run_in<F: Opens, T: GroupTrees, R: Read + Input, W: Write, E: Write>(
     machine: &str,
     table: Option<&str>,
     root: Option<&str>,
-    adopt: bool,
+    options: RootOptions,
     files: &F,
     trees: &mut T,
     input: R,
@@ -96,14 +96,14 @@ fn run_in<F: Opens, T: GroupTrees, R: Read + Input, W: Write, E: Write>(
         F.File.gives
         T.Files.asked (T.finds trees.old) T.asked trees.old trees.new (IsConfigIn F.opens F.fails F.File.gives)
         (R.Input.gives input) (R.Read.remaining input)
-        (run machine.now (option_map word_bytes table.entry) (option_map word_bytes root.entry) adopt) }
+        (run machine.now (option_map word_bytes table.entry) (option_map word_bytes root.entry) options) }
 {
     let mut script = input;
     let bundles = Folders::new(alloc, files);
     match root {
         None => do_run(alloc, machine, table, files, bundles, &mut script, console),
         Some(path) => {
-            let root = Root { path, adopt };
+            let root = Root { path, options };
             do_run_mirrored(
                 alloc,
                 machine,

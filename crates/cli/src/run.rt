@@ -40,7 +40,8 @@ pub fn do_run<F: Opens, B: Bundles + Drop, R: Read, W: Write, E: Write>(
     // holds (`IsDefectOf`): the file is too long, it is no JSON, or it is JSON. If memory is short it names all of
     // them. Or it runs the script over a node with no container, on a kernel of that machine in which nothing was done
     // yet. What is written then is what `script` and `runtime` say of the answers. If the script can't be read, a last
-    // line says so, and standard error tells the fault that ended it (`Finishes`, `is_unread`).
+    // line says so, and standard error tells the fault that ended it (`Finishes`, `is_unread`). If it refuses one of
+    // the files, or has no room for the node, no byte of the script was read.
     ensures { Scripts W.contents E.contents console.old console.new result (F.opens files.now) (F.fails files.now)
         F.File.gives
         B.finds (B.told bundles) (R.remaining script.old) (R.remaining script.new)

@@ -19,9 +19,9 @@ pub fn slit_spellings()
 {}
 
 /// `run MACHINE` asks for a run over the machine in that file, if its name doesn't begin with a hyphen or has `--`
-/// before it. With `--slit FILE`, with `--cgroup ROOT`, or with that and `--adopt`, it asks for one with these, if no
-/// name begins with a hyphen. They stand behind the machine or before it. `--adopt` without `--cgroup` is a mistake, in
-/// whatever words (`adopt_beside`).
+/// before it. With `--slit FILE`, with `--cgroup ROOT`, or with that and `--adopt` or `--partition`, it asks for one
+/// with these, if no name begins with a hyphen. They stand behind the machine or before it. `--adopt` without
+/// `--cgroup` is a mistake, and so is `--partition`, in whatever words (`flags_beside`).
 pub fn run_spellings()
     ensures { RunSpellings }
 {}

@@ -19,6 +19,8 @@ pub enum Unrooted {
     NoCpuset,
     /// E116: its CPUs or nodes are not the machine's.
     OtherMachine,
+    /// E117: it has to be a partition root, and is none.
+    NoPartition,
     /// E50: another program has the root.
     Taken,
     /// E50: the root can't be locked, so other programs can't be kept from it.
@@ -40,6 +42,7 @@ impl From<RootFault> for Unrooted {
             RootFault::Unread(kind) => Unrooted::Unread(ReadFault::told(kind)),
             RootFault::NoCpuset => Unrooted::NoCpuset,
             RootFault::OtherMachine => Unrooted::OtherMachine,
+            RootFault::NoPartition => Unrooted::NoPartition,
         }
     }
 }
@@ -69,6 +72,7 @@ impl Printed for Unrooted {
             Unrooted::Memory => Refusal::Memory.write(w),
             Unrooted::NoCpuset => put(b"refused E115 NoCpuset\n", w),
             Unrooted::OtherMachine => put(b"refused E116 OtherMachine\n", w),
+            Unrooted::NoPartition => put(b"refused E117 NoPartition\n", w),
             Unrooted::Taken | Unrooted::Unlocked | Unrooted::Kernel => {
                 put(b"refused E50 KernelFault\n", w)
             }

@@ -2,10 +2,11 @@
 ghost use Rattle.std.specs.Prelude.{◌≡◌, ℕ, List, [], IfOk, IfErr, OnErr, OnOk, map, option_map, string_bytes};
 ghost use Rattle.clap.specs.Words.{FailsBy, first_of, found_of, kind_of, rows_of, subcommand_of, subcommand_rows_of};
 ghost use Rattle.clap.specs.declared.error.kind.ErrorKind.{ErrorKind};
-ghost use Rattle.cli.specs.Asked.{asked, asked_by, asked_for, asked_in, is_set, value};
+ghost use Rattle.cli.specs.Asked.{asked, asked_by, asked_for, asked_in, is_set, options_of, value};
 ghost use Rattle.cli.specs.CommandLine.{numarun};
 ghost use Rattle.cli.specs.Mistakes.{HasCause, IsFaultOf, mistakes, refusals};
 
+use cgroup_tree::RootOptions;
 use clap::error::ErrorKind;
 use clap::{ArgMatches, Error};
 use faults::OrMemory;
@@ -52,12 +53,12 @@ pub enum Words<'a> {
         file: &'a str,
     },
     /// Run the script on standard input over the machine of a file, its distances perhaps in a table of their own;
-    /// perhaps below the root of a cgroup tree, which may have folders of a run before.
+    /// perhaps below the root of a cgroup tree, opened so.
     Run {
         machine: &'a str,
         slit: Option<&'a str>,
         cgroup: Option<&'a str>,
-        adopt: bool,
+        options: RootOptions,
     },
     /// Solve the problem in the file, or where there is none the one on standard input.
     Solve {
@@ -79,8 +80,8 @@ pub fn parse<'a, G: Grammar>(
     ensures ok { IfOk result (λ asks. asked asks ≡ asked_for (map string_bytes words.entry.now)) }
     ensures accepted { OnOk result (mistakes (map string_bytes words.entry.now) ≡ []) }
     // Else it tells a mistake that they have (`HasCause`). An allocation failure is told only if the grammar answered
-    // it. The grammar of the program is `CommandLine`, which is clap's, with a rule beside it: `--adopt` without
-    // `--cgroup` is a mistake, in whatever words (`run_spellings`, by `adopt_beside`).
+    // it. The grammar of the program is `CommandLine`, which is clap's, with a rule beside it: `--adopt` or
+    // `--partition` without `--cgroup` is a mistake, in whatever words (`run_spellings`, by `flags_beside`).
     ensures err { IfErr result (HasCause (G.fails grammar.now (map string_bytes words.entry.now))
         (map string_bytes words.entry.now)) }
 {
@@ -126,7 +127,7 @@ fn asked_by<'a>(name: &str, given: &ArgMatches<'a>) -> Words<'a>
             machine: value(given, "machine"),
             slit: text(given, "slit"),
             cgroup: text(given, "cgroup"),
-            adopt: is_set(given, "adopt"),
+            options: options_of(given),
         },
         "solve" => Words::Solve {
             file: text(given, "file"),
@@ -142,6 +143,16 @@ fn value<'a>(given: &ArgMatches<'a>, id: &str) -> &'a str
     ensures { result.now ≡ value id.now (rows_of (found_of given.now)) }
 {
     given.get_str(id).unwrap_or("")
+}
+
+/// How the tree is opened.
+fn options_of(given: &ArgMatches<'_>) -> RootOptions
+    ensures { result ≡ options_of (rows_of (found_of given.now)) }
+{
+    RootOptions {
+        adopt: is_set(given, "adopt"),
+        partition: is_set(given, "partition"),
+    }
 }
 
 /// Whether a flag was given.

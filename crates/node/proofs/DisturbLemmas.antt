@@ -25,10 +25,10 @@ use Rattle.apply_plan.specs.DueLemmas.{Due, Releases, Moves, Rests, due_is, hold
 use Rattle.apply_plan.specs.DueWrite.{held, kept_of, must_release, must_move, due, written, Steps, writes_of, writes_to_come, made_by_step}
 use Rattle.apply_plan.specs.KernelFactLemmas.{with_request, is_write}
 use Rattle.apply_plan.specs.ListLemmas.{find_passes, find_among, find_none, found_alone}
-use Rattle.apply_plan.specs.OneStep.{StepsLeave}
 use Rattle.apply_plan.specs.Runs.{IsOpen}
 use Rattle.apply_plan.specs.StepLemmas.{waits_at_most, released_lowers, moved_lowers}
 use Rattle.apply_plan.specs.WriteLemmas.{IsWrite, by_test}
+use Rattle.node.specs.declared.order.Order.TheVariants.{InTurn}
 use Rattle.node.specs.declared.phase.Phase.TheVariants.{Settled, Unsettled}
 use Rattle.node.specs.NodeState.{Ongoing, NodeState}
 use Rattle.node.specs.Owners.{owners_of}
@@ -36,11 +36,14 @@ use Rattle.node.specs.IsNode.{IsNode}
 use Rattle.node.specs.Rows.{as_cpus, requested_by}
 use Rattle.node.specs.Best.{CouldHave}
 use Rattle.node.specs.Entries.{Target, entry_of, plan_targets, plan_entries, opened}
+use Rattle.node.specs.declared.order.Order.{Order}
+use Rattle.node.specs.Orders.{StepsBy, made_by}
 use Rattle.node.specs.Rebalance.{StepsMore, Ends}
 use Rattle.node.specs.Disturbs.{before, last_write, writes_of_steps, writes_of_moves, times_written, IsLittleWritten, WritesLittle, RebalancesWriteLittle}
 use Rattle.node.proofs.ListLemmas.{all_map, all_map2, all_of, all_of_map, of_all_map}
 use Rattle.node.proofs.HeadlineLemmas.{begun_node}
 use Rattle.node.proofs.OngoingLemmas.{entries_safe}
+use Rattle.node.proofs.OrderLemmas.{OrdersLeave}
 use Rattle.node.proofs.PlanLemmas.{opened_ongoing}
 use Rattle.node.proofs.StepLemmas.{its_steps, open_now, leaves, more_node}
 
@@ -158,7 +161,7 @@ pub record Little (o : Ongoing) (old : KernelState) (writes : List Write) (new :
   pub each : AllByRecursion (λ a. times_written a.group writes ≤ writes_of old o.targets.reserved a) o.targets.entries
   pub others : (g : Group) → AllByRecursion (λ a. same_group a.group g ≡ false) o.targets.entries → times_written g writes ≡ 0
 
-module _ (law : StepsLeave) (o : Ongoing) where
+module _ (law : OrdersLeave) (o : Ongoing) (in_turn : o.order ≡ InTurn) where
   module _ (old : NodeState) (h : IsNode old) (was : old.ongoing ≡ Some o) where
     opened_now : IsOpen o.targets old.kernel
     opened_now = open_now law old h o was
@@ -220,15 +223,20 @@ module _ (law : StepsLeave) (o : Ongoing) where
           omega (arith, times, none, on);
     }
 
+  -- how many writing calls a step in turn made
+  made_one : (old : NodeState) (new : KernelState) → new.writes ≡ old.kernel.writes + made_by o.order old.machine o old.kernel
+      → new.writes ≡ old.kernel.writes + made_by_step o.targets old.kernel
+  made_one old new made = subst (λ (order : Order). new.writes ≡ old.kernel.writes + made_by order old.machine o old.kernel) in_turn made
+
   -- the last step, by its answer
   ended_little : (old : NodeState) (h : IsNode old) (was : old.ongoing ≡ Some o) (r : Result (Unit {0}) KernelFault) (new : NodeState) (s : Ends old r new)
       → Little o old.kernel (last_write old r new s) new.kernel
   ended_little old h was (Ok done) new s =
       last_little old h was (due s.handover.targets old.kernel) (same_due old h was s.handover s.was) new.kernel
-      (leaves law old h o was new.kernel (Ok Done) (its_steps old o was new (Ok Done) Settled None s)).made
+      (made_one old new.kernel (leaves law old h o was new.kernel (Ok Done) (its_steps old o was new (Ok Done) Settled None s)).made)
   ended_little old h was (Err fault) new s =
       last_little old h was (due s.handover.targets old.kernel) (same_due old h was s.handover s.was) new.kernel
-      (leaves law old h o was new.kernel (Err fault) (its_steps old o was new (Err fault) Unsettled None s)).made
+      (made_one old new.kernel (leaves law old h o was new.kernel (Err fault) (its_steps old o was new (Err fault) Unsettled None s)).made)
 
   all_little : (count : ℕ) (old mid new : NodeState) → IsNode old → old.ongoing ≡ Some o → (more : StepsMore count old mid) (r : Result (Unit {0}) KernelFault)
       (ends : Ends mid r new) → Little o old.kernel (writes_of_steps count old mid more (last_write mid r new ends)) new.kernel
@@ -238,12 +246,14 @@ module _ (law : StepsLeave) (o : Ongoing) where
       subst (λ (n : NodeState). Little o n.kernel (last_write mid r new ends) new.kernel) more (ended_little mid node its r new ends)
   all_little (suc count) old mid new h was more r ends =
       let s = more.1 in
-      let steps : Steps o.targets old.kernel (Ok More) more.0.kernel = its_steps old o was more.0 (Ok More) old.phase old.ongoing s in
-      let node : IsNode more.0 = subst (λ (n : NodeState). IsNode n) (sym s.is) (more_node law old h o was more.0.kernel (Ok More) steps) in
-      let its : more.0.ongoing ≡ Some o = ap (λ (n : NodeState). n.ongoing) s.is ∙ was in
+      let its = its_steps old o was more.0 (Ok More) old.phase old.ongoing s in
+      let steps : Steps o.targets old.kernel (Ok More) more.0.kernel =
+      subst (λ (order : Order). StepsBy order old.machine o old.kernel (Ok More) more.0.kernel) in_turn its in
+      let node : IsNode more.0 = subst (λ (n : NodeState). IsNode n) (sym s.is) (more_node law old h o was more.0.kernel (Ok More) its) in
+      let there : more.0.ongoing ≡ Some o = ap (λ (n : NodeState). n.ongoing) s.is ∙ was in
       first_little old h was (due s.handover.targets old.kernel) (same_due old h was s.handover s.was) more.0.kernel steps.0
-      (leaves law old h o was more.0.kernel (Ok More) steps).made (writes_of_steps count more.0 mid more.2 (last_write mid r new ends)) new.kernel
-      (all_little count more.0 mid new node its more.2 r ends)
+      (made_one old more.0.kernel (leaves law old h o was more.0.kernel (Ok More) its).made) (writes_of_steps count more.0 mid more.2 (last_write mid r new ends)) new.kernel
+      (all_little count more.0 mid new node there more.2 r ends)
 
 -- ---- what one container waits for
 
@@ -303,7 +313,7 @@ module _ (old : NodeState) (h : IsNode old) (sets : List Ids) (could : CouldHave
 
   have_both : AllByRecursion HasBoth (plan_entries old sets)
   have_both =
-      let ongoing = opened_ongoing old h sets could in
+      let ongoing = opened_ongoing old h sets could InTurn in
       all_map2 (λ e. is_empty e.target ≡ false) (λ e. HasSome old.kernel (requested_cpus old.kernel.tree) (holder_of e)) HasBoth
       (λ e target some. record { target = target; some = some }) (plan_entries old sets) ongoing.handover.some
       (of_all_map holder_of (HasSome old.kernel (requested_cpus old.kernel.tree)) (plan_entries old sets)
@@ -330,7 +340,7 @@ module _ (old : NodeState) (h : IsNode old) (sets : List Ids) (could : CouldHave
         (ap (λ a. a && not (is_same (held old.kernel (entry_of p)) p.1)) dead) in
         omega (arith, none)
 
-  pub writes_little : (new : NodeState) → Little (opened old sets) old.kernel writes new.kernel → WritesLittle old sets writes new
+  pub writes_little : (new : NodeState) → Little (opened InTurn old sets) old.kernel writes new.kernel → WritesLittle old sets writes new
   writes_little new l = record {
     all = l.all;
     each = all_map2 (λ p. HasBoth (entry_of p)) (λ p. times_written p.0.1.group writes ≤ writes_of old.kernel old.machine.reserved (entry_of p))
@@ -340,14 +350,14 @@ module _ (old : NodeState) (h : IsNode old) (sets : List Ids) (could : CouldHave
     others = λ g apart. l.others g (all_of_map entry_of (λ a. same_group a.group g ≡ false) (plan_targets old sets) apart);
   }
 
-pub rebalances_write_little : StepsLeave → RebalancesWriteLittle
+pub rebalances_write_little : OrdersLeave → RebalancesWriteLittle
 rebalances_write_little law old total r new h m =
     let b = m.begun in
     let sets : List Ids = as_cpus old.machine b.plan in
     let f = m.finishes in
     let writes : List Write = writes_of_moves old total r new m in
-    let node : IsNode m.mid = begun_node old h total m.mid b in
-    let l : Little (opened old sets) m.mid.kernel writes new.kernel =
-    all_little law (opened old sets) f.steps m.mid f.mid new node (ap (λ (n : NodeState). n.ongoing) b.is) f.more r f.ends in
+    let node : IsNode m.mid = begun_node InTurn old h total m.mid b in
+    let l : Little (opened InTurn old sets) m.mid.kernel writes new.kernel =
+    all_little law (opened InTurn old sets) refl f.steps m.mid f.mid new node (ap (λ (n : NodeState). n.ongoing) b.is) f.more r f.ends in
     writes_little old h sets b.best.could writes new
-    (subst (λ (k : KernelState). Little (opened old sets) k writes new.kernel) (ap (λ (n : NodeState). n.kernel) b.is) l)
+    (subst (λ (k : KernelState). Little (opened InTurn old sets) k writes new.kernel) (ap (λ (n : NodeState). n.kernel) b.is) l)

@@ -1,33 +1,32 @@
 -- How long a hand-over lasts that is stepped.
-use Rattle.std.proofs.Common.{◌≡◌, inl, inr, ℕ, ◌+◌, ◌*◌, ◌≤◌, true, false, cond, List, [], ◌∷◌, length, Some, None, refl, sym, ap, ◌∙◌, subst, arith}
+use Rattle.std.proofs.Common.{◌≡◌, inl, inr, ℕ, ◌+◌, ◌*◌, ◌≤◌, true, false, List, [], ◌∷◌, length, Some, None, refl, sym, ap, ◌∙◌, subst, arith}
 use Rattle.std.proofs.lemmas.Bool.{false≢true}
-use Rattle.std.specs.Prelude.{Option, is_some, Result, Ok, Err}
+use Rattle.std.specs.Prelude.{Result, Ok, Err}
 use Rattle.std.specs.List.{AllByRecursion}
 use Rattle.faults.specs.declared.OrMemory.{OrMemory}
 use Rattle.faults.specs.declared.OrMemory.TheVariants.{Memory, Fault}
 use Rattle.cpu_set.specs.Ids.{Ids}
+use Rattle.cpu_set.specs.Members.{InRange}
 use Rattle.kernel_model.specs.declared.KernelFault.{KernelFault}
 use Rattle.kernel_model.specs.declared.KernelFault.TheVariants.{NoPids}
 use Rattle.kernel_model.specs.declared.Call.{Call}
 use Rattle.kernel_model.specs.declared.Call.TheVariants as call
 use Rattle.kernel_model.specs.declared.Reply.{Reply}
 use Rattle.kernel_model.specs.declared.Reply.TheVariants as reply
-use Rattle.kernel_model.specs.KernelState.{KernelState}
 use Rattle.kernel_model.specs.Runs.{reply_of, reply_at_once}
 use Rattle.kernel_model.specs.Runs as kernel
 use Rattle.apply_plan.specs.declared.Progress.{Progress}
 use Rattle.apply_plan.specs.declared.Progress.TheVariants.{More, Done}
-use Rattle.apply_plan.specs.declared.scan.Write.{Write}
-use Rattle.apply_plan.specs.DueWrite.{due, written, progress_of, writes_to_come}
-use Rattle.apply_plan.specs.OneStep.{StepsLeave}
-use Rattle.apply_plan.specs.Runs.{IsOpen, Called, LeavesEntries, EndsWithin, FewToCome}
+use Rattle.apply_plan.specs.Runs.{LeavesEntries}
 use Rattle.node.specs.declared.fault.NodeFault.{NodeFault}
 use Rattle.node.specs.declared.fault.NodeFault.TheVariants.{Busy, NoHandover, Kernel}
+use Rattle.node.specs.declared.order.Order.{Order}
 use Rattle.node.specs.declared.outcome.Outcome.{Outcome}
 use Rattle.node.specs.declared.outcome.Outcome.TheVariants.{Plan, Short}
 use Rattle.node.specs.NodeState.{Ongoing, NodeState, is_underway}
 use Rattle.node.specs.Owners.{owners_of}
 use Rattle.node.specs.Ongoing.{Stands}
+use Rattle.node.specs.Orders.{left_of}
 use Rattle.node.specs.IsNode.{IsNode}
 use Rattle.node.specs.Updates.{Updates}
 use Rattle.node.specs.Calls.{Ended, Places, Starts, Kills, Deletes}
@@ -35,32 +34,22 @@ use Rattle.node.specs.Rebalance.{Begins, StepsOn, Rebalances}
 use Rattle.node.specs.Machine.{Event, Step, Run}
 use Rattle.node.specs.Machine.Event.{Create, Adopt, Update, Start, Kill, Delete, Rebalance, Begin, StepOn, Ask, Fork, Exit, Offline, Online}
 use Rattle.node.specs.Ending.{step_in, steps_in, IsMore, HandoversEnd}
+use Rattle.node.proofs.OrderLemmas.{OrdersLeave, CallsLeave, FewBy}
 use Rattle.node.proofs.StepLemmas.{its_steps, open_now, leaves}
 use Rattle.node.proofs.MachineLemmas.{runs_keep}
 
 -- what so many steps leave of the hand-over
 record Lasts (o : Ongoing) (old : NodeState) (steps : ℕ) (new : NodeState) : Type 0 where
   pub still : new.ongoing ≡ Some o
-  pub falls : steps + writes_to_come o.targets new.kernel ≤ writes_to_come o.targets old.kernel
+  pub falls : steps + left_of o new.kernel ≤ left_of o old.kernel
 
--- where a step answers that more are to come, one write is due
-one_due : (w : Option Write) → More ≡ progress_of w → 1 ≤ cond (is_some w) 1 0
-one_due (Some w) more = omega arith
-one_due None more = absurd (let no : ⊥ = cc more in no)
-
--- so that one is to come
-one_to_come : StepsLeave → (o : Ongoing) (k : KernelState) → IsOpen o.targets k → More ≡ progress_of (due o.targets k) → 1 ≤ writes_to_come o.targets k
-one_to_come law o k opened more =
-    let next = written k (due o.targets k) in
-    let lowers : writes_to_come o.targets k ≡ writes_to_come o.targets next + cond (is_some (due o.targets k)) 1 0 =
-    (law o.targets k (Ok (progress_of (due o.targets next))) next opened (refl, refl)).lowers in
-    let one : 1 ≤ cond (is_some (due o.targets k)) 1 0 = one_due (due o.targets k) more in
-    omega (arith, lowers, one)
-
-module _ (law : StepsLeave) (ends : EndsWithin) (o : Ongoing) (old : NodeState) (h : IsNode old) (was : old.ongoing ≡ Some o) where
+module _ (law : OrdersLeave) (ends : CallsLeave) (o : Ongoing) (old : NodeState) (h : IsNode old) (was : old.ongoing ≡ Some o) where
   -- so no call is made that wants none open
   underway : is_underway old.phase ≡ true
   underway = (subst (Stands old.kernel (owners_of old.containers) (is_underway old.phase)) was h.stands).0
+
+  ranged : AllByRecursion InRange o.allowed
+  ranged = (subst (Stands old.kernel (owners_of old.containers) (is_underway old.phase)) was h.stands).1.ranged
 
   module _ (new : NodeState) where
     open_already : is_underway old.phase ≡ false → Lasts o old 0 new
@@ -68,7 +57,7 @@ module _ (law : StepsLeave) (ends : EndsWithin) (o : Ongoing) (old : NodeState) 
 
     same_kernel : new.ongoing ≡ old.ongoing → new.kernel ≡ old.kernel → Lasts o old 0 new
     same_kernel still same =
-        let e : writes_to_come o.targets new.kernel ≡ writes_to_come o.targets old.kernel = ap (writes_to_come o.targets) same in
+        let e : left_of o new.kernel ≡ left_of o old.kernel = ap (left_of o) same in
         record { still = still ∙ was; falls = omega (arith, e) }
 
     unchanged : new ≡ old → Lasts o old 0 new
@@ -77,14 +66,14 @@ module _ (law : StepsLeave) (ends : EndsWithin) (o : Ongoing) (old : NodeState) 
     called : new.ongoing ≡ old.ongoing → (c : Call) → LeavesEntries o.targets.entries c → (r : Result Reply (OrMemory KernelFault))
         → kernel.Step old.kernel c r new.kernel → Lasts o old 0 new
     called still c apart r step =
-        let e : 0 + 0 + writes_to_come o.targets new.kernel ≤ writes_to_come o.targets old.kernel =
-        ends o.targets old.kernel ((Called c r, new.kernel) ∷ []) (open_now law old h o was) ((apart, step), tt) in
+        let e : left_of o new.kernel ≤ left_of o old.kernel =
+        ends o.order old.machine o old.kernel new.kernel c r h.layout.sound ranged (open_now law old h o was) apart step in
         record { still = still ∙ was; falls = omega (arith, e) }
 
     stepped : StepsOn old (Ok More) new → Lasts o old 1 new
     stepped s =
-        let e : writes_to_come o.targets old.kernel ≡ writes_to_come o.targets new.kernel + 1 =
-        (leaves law old h o was new.kernel (Ok More) (its_steps old o was new (Ok More) old.phase old.ongoing s)).falls refl in
+        let e : left_of o new.kernel + 1 ≤ left_of o old.kernel =
+        (leaves law old h o was new.kernel (Ok More) (its_steps old o was new (Ok More) old.phase old.ongoing s)).fewer refl in
         record { still = ap (λ (n : NodeState). n.ongoing) s.is ∙ was; falls = omega (arith, e) }
 
     place_goes : (cpus : Ids) (id bundle config : List ℕ) (r : Result ℕ (OrMemory NodeFault)) → Places cpus old id bundle config r new → Lasts o old 0 new
@@ -119,20 +108,20 @@ module _ (law : StepsLeave) (ends : EndsWithin) (o : Ongoing) (old : NodeState) 
     delete_goes id (Err (Kernel fault)) d = open_already d.1.settled
     delete_goes id (Err fault) d = unchanged d.1
 
-    begin_goes : (r : Result Outcome (OrMemory NodeFault)) → Begins old r new → Lasts o old 0 new
-    begin_goes (Ok (Plan total)) b = open_already b.settled
-    begin_goes (Ok (Short wanted allowed)) b = open_already b.settled
-    begin_goes (Err Memory) b = open_already b.0
-    begin_goes (Err (Fault Busy)) b = unchanged b.1
-    begin_goes (Err (Fault fault)) b = absurd b
+    begin_goes : (order : Order) (r : Result Outcome (OrMemory NodeFault)) → Begins order old r new → Lasts o old 0 new
+    begin_goes order (Ok (Plan total)) b = open_already b.settled
+    begin_goes order (Ok (Short wanted allowed)) b = open_already b.settled
+    begin_goes order (Err Memory) b = open_already b.0
+    begin_goes order (Err (Fault Busy)) b = unchanged b.1
+    begin_goes order (Err (Fault fault)) b = absurd b
 
-    rebalance_goes : (r : Result Outcome (OrMemory NodeFault)) → Rebalances old r new → Lasts o old 0 new
-    rebalance_goes (Ok (Plan total)) m = open_already m.begun.settled
-    rebalance_goes (Ok (Short wanted allowed)) b = open_already b.settled
-    rebalance_goes (Err (Fault (Kernel fault))) m = open_already m.1.begun.settled
-    rebalance_goes (Err Memory) b = open_already b.0
-    rebalance_goes (Err (Fault Busy)) b = unchanged b.1
-    rebalance_goes (Err (Fault fault)) b = absurd b
+    rebalance_goes : (order : Order) (r : Result Outcome (OrMemory NodeFault)) → Rebalances order old r new → Lasts o old 0 new
+    rebalance_goes order (Ok (Plan total)) m = open_already m.begun.settled
+    rebalance_goes order (Ok (Short wanted allowed)) b = open_already b.settled
+    rebalance_goes order (Err (Fault (Kernel fault))) m = open_already m.1.begun.settled
+    rebalance_goes order (Err Memory) b = open_already b.0
+    rebalance_goes order (Err (Fault Busy)) b = unchanged b.1
+    rebalance_goes order (Err (Fault fault)) b = absurd b
 
     goes : (event : Event) → Step old event new → IsMore event → Lasts o old (step_in event) new
     goes (Create id bundle config answer) s more = place_goes old.machine.reserved id bundle config answer s
@@ -141,8 +130,8 @@ module _ (law : StepsLeave) (ends : EndsWithin) (o : Ongoing) (old : NodeState) 
     goes (Start id answer) s more = start_goes id answer s
     goes (Kill id signal answer) s more = kill_goes id signal answer s
     goes (Delete id answer) s more = delete_goes id answer s
-    goes (Rebalance answer) s more = rebalance_goes answer s
-    goes (Begin answer) s more = begin_goes answer s
+    goes (Rebalance order answer) s more = rebalance_goes order answer s
+    goes (Begin order answer) s more = begin_goes order answer s
     goes (StepOn answer) s more = stepped (subst (λ (r : Result Progress NodeFault). StepsOn old r new) more s)
     goes (Ask question) s more = unchanged s.1
     goes (Fork parent answer) s more = called (ap (λ (n : NodeState). n.ongoing) s.1) (call.Fork parent) tt (reply_of reply.Pid answer) (answer, refl, s.0)
@@ -154,34 +143,34 @@ module _ (law : StepsLeave) (ends : EndsWithin) (o : Ongoing) (old : NodeState) 
         called (ap (λ (n : NodeState). n.ongoing) s.1) (call.OnlineCpu cpu) tt (reply_at_once (λ _. reply.Done) answer) (answer, refl, s.0)
 
   -- where at most one write is to come, a step ends it
-  last_ends : writes_to_come o.targets old.kernel ≤ 1 → (r : Result Progress NodeFault) (after : NodeState) → StepsOn old r after → after.ongoing ≡ None
+  last_ends : left_of o old.kernel ≤ 1 → (r : Result Progress NodeFault) (after : NodeState) → StepsOn old r after → after.ongoing ≡ None
   last_ends few (Ok More) after s =
       let steps = its_steps old o was after (Ok More) old.phase old.ongoing s in
       let left = leaves law old h o was after.kernel (Ok More) steps in
-      let falls : writes_to_come o.targets old.kernel ≡ writes_to_come o.targets after.kernel + 1 = left.falls refl in
-      let one : 1 ≤ writes_to_come o.targets after.kernel = one_to_come law o after.kernel left.open_still steps.1 in
+      let falls : left_of o after.kernel + 1 ≤ left_of o old.kernel = left.fewer refl in
+      let one : 1 ≤ left_of o after.kernel = left.more refl in
       absurd (omega (arith, few, falls, one))
   last_ends few (Ok Done) after s = ap (λ (n : NodeState). n.ongoing) s.is
   last_ends few (Err (Kernel fault)) after s = ap (λ (n : NodeState). n.ongoing) s.is
   last_ends few (Err NoHandover) after s = absurd (false≢true (sym s.0 ∙ underway))
   last_ends few (Err fault) after s = absurd s
 
-module _ (law : StepsLeave) (ends : EndsWithin) (o : Ongoing) where
+module _ (law : OrdersLeave) (ends : CallsLeave) (o : Ongoing) where
   lasts : (old : NodeState) (events : List Event) (new : NodeState) → IsNode old → old.ongoing ≡ Some o → Run old events new → AllByRecursion IsMore events
       → Lasts o old (steps_in events) new
   lasts old [] new h was r more = unchanged law ends o old h was new r
   lasts old (event ∷ later) new h was (mid, step, run) more =
       let first = goes law ends o old h was mid event step more.0 in
       let rest = lasts mid later new (runs_keep law old (event ∷ []) mid h (mid, step, refl)) first.still run more.1 in
-      let a : step_in event + writes_to_come o.targets mid.kernel ≤ writes_to_come o.targets old.kernel = first.falls in
-      let b : steps_in later + writes_to_come o.targets new.kernel ≤ writes_to_come o.targets mid.kernel = rest.falls in
+      let a : step_in event + left_of o mid.kernel ≤ left_of o old.kernel = first.falls in
+      let b : steps_in later + left_of o new.kernel ≤ left_of o mid.kernel = rest.falls in
       record { still = rest.still; falls = omega (arith, a, b) }
 
-pub handovers_end : StepsLeave → EndsWithin → FewToCome → HandoversEnd
+pub handovers_end : OrdersLeave → CallsLeave → FewBy → HandoversEnd
 handovers_end law ends few old o events new h was run more =
     let last = lasts law ends o old events new h was run more in
-    let falls : steps_in events + writes_to_come o.targets new.kernel ≤ writes_to_come o.targets old.kernel = last.falls in
-    let at_most : writes_to_come o.targets old.kernel ≤ 2 * length o.targets.entries = few o.targets old.kernel in
+    let falls : steps_in events + left_of o new.kernel ≤ left_of o old.kernel = last.falls in
+    let at_most : left_of o old.kernel ≤ 2 * length o.targets.entries = few o.order o.targets old.kernel in
     record {
       still = last.still;
       falls = falls;

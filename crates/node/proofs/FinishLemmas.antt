@@ -1,7 +1,7 @@
 -- What the steps of a hand-over leave, once it ended.
-use Rattle.std.proofs.Common.{◌≡◌, ℕ, zero, suc, ◌+◌, true, false, Some, None, refl, sym, ap, ◌∙◌, subst, arith}
+use Rattle.std.proofs.Common.{◌≡◌, ℕ, zero, suc, ◌+◌, ◌≤◌, true, false, Some, None, refl, sym, ap, ◌∙◌, subst, arith}
 use Rattle.std.proofs.lemmas.Bool.{false≢true}
-use Rattle.std.specs.Prelude.{Option, Result, Ok, Err}
+use Rattle.std.specs.Prelude.{Option, Result, Ok, Err, IfErr}
 use Rattle.kernel_model.specs.declared.KernelFault.{KernelFault}
 use Rattle.kernel_model.specs.declared.KernelFault.TheVariants.{Failed}
 use Rattle.kernel_model.specs.KernelState.{KernelState}
@@ -11,15 +11,16 @@ use Rattle.apply_plan.specs.declared.Progress.TheVariants.{More, Done}
 use Rattle.apply_plan.specs.DueWrite.{HaveTargets, writes_to_come, Spends}
 use Rattle.apply_plan.specs.Leaves.{KeepsRest}
 use Rattle.apply_plan.specs.LeavesLemmas.{rest_then}
-use Rattle.apply_plan.specs.Finishes as plan
-use Rattle.apply_plan.specs.OneStep.{StepsLeave}
+use Rattle.node.specs.declared.order.Order.TheVariants.{InTurn}
 use Rattle.node.specs.declared.phase.Phase.{Phase}
 use Rattle.node.specs.declared.phase.Phase.TheVariants.{Settled, Unsettled}
 use Rattle.node.specs.NodeState.{Ongoing, NodeState, is_underway}
 use Rattle.node.specs.Owners.{owners_of}
 use Rattle.node.specs.Ongoing.{IsOngoing, Stands, IsBroken}
 use Rattle.node.specs.IsNode.{IsNode}
+use Rattle.node.specs.Orders.{StepsMoreBy, AllStepsBy, left_of}
 use Rattle.node.specs.Rebalance.{Stepped, StepsOn, StepsMore, Finishes}
+use Rattle.node.proofs.OrderLemmas.{OrdersLeave}
 use Rattle.node.proofs.StepLemmas.{its_steps, leaves, moved_on, more_node, ended_node}
 
 -- what a hand-over leaves that came to its end: a node in which each of its live containers has its target; and nothing
@@ -31,7 +32,8 @@ pub record Settles (o : Ongoing) (old new : NodeState) : Type 0 where
   pub table : new.kernel.table ≡ old.kernel.table
   pub online : new.kernel.tree.online ≡ old.kernel.tree.online
   pub failures : new.kernel.failures ≡ old.kernel.failures
-  pub made : new.kernel.writes ≡ old.kernel.writes + writes_to_come o.targets old.kernel
+  pub made : o.order ≡ InTurn → new.kernel.writes ≡ old.kernel.writes + writes_to_come o.targets old.kernel
+  pub few : new.kernel.writes ≤ old.kernel.writes + left_of o old.kernel
   pub machine : new.machine ≡ old.machine
   pub parent : new.parent ≡ old.parent
   pub containers : new.containers ≡ old.containers
@@ -46,7 +48,7 @@ pub record Breaks (o : Ongoing) (fault : KernelFault) (old new : NodeState) : Ty
   pub broken : IsBroken o old.kernel new.kernel
   pub failed : fault ≡ Failed
   pub failures : new.kernel.failures ≡ old.kernel.failures + 1
-  pub spends : Spends o.targets old.kernel 1 new.kernel
+  pub few : new.kernel.writes ≤ old.kernel.writes + left_of o old.kernel + 1
   pub machine : new.machine ≡ old.machine
   pub parent : new.parent ≡ old.parent
   pub containers : new.containers ≡ old.containers
@@ -62,11 +64,13 @@ record Ended (o : Ongoing) (old : NodeState) (r : Result Progress KernelFault) (
   rest : KeepsRest o.targets old.kernel new.kernel
   done : r ≡ Ok Done → HaveTargets new.kernel o.targets.entries
   failures : new.kernel.failures ≡ old.kernel.failures + rise r
-  spends : Spends o.targets old.kernel (rise r) new.kernel
-  spent : r ≡ Ok Done → writes_to_come o.targets new.kernel ≡ 0
+  failed : IfErr r (λ fault. fault ≡ Failed)
+  spends : new.kernel.writes + left_of o new.kernel ≤ old.kernel.writes + left_of o old.kernel + rise r
+  exact : o.order ≡ InTurn → Spends o.targets old.kernel (rise r) new.kernel
+  spent : o.order ≡ InTurn → r ≡ Ok Done → writes_to_come o.targets new.kernel ≡ 0
   is : new ≡ record old { kernel = new.kernel; phase = phase; ongoing = None }
 
-module _ (law : StepsLeave) (o : Ongoing) where
+module _ (law : OrdersLeave) (o : Ongoing) where
   module _ (r : Result Progress KernelFault) (phase : Phase) (settled : is_underway phase ≡ false) where
     last_step : (old new : NodeState) → IsNode old → old.ongoing ≡ Some o → Stepped old r phase None new → Ended o old r phase new
     last_step old new h was s =
@@ -78,7 +82,9 @@ module _ (law : StepsLeave) (o : Ongoing) where
           rest = left.rest;
           done = left.done;
           failures = left.counted;
+          failed = left.failed;
           spends = left.spends;
+          exact = left.exact;
           spent = left.spent;
           is = s.is;
         }
@@ -90,15 +96,20 @@ module _ (law : StepsLeave) (o : Ongoing) where
         let left = leaves law old h o was mid.kernel (Ok More) steps in
         let first : mid.kernel.failures ≡ old.kernel.failures + 0 = left.counted in
         let later : new.kernel.failures ≡ mid.kernel.failures + rise r = e.failures in
-        let one : Spends o.targets old.kernel 0 mid.kernel = left.spends in
-        let others : Spends o.targets mid.kernel (rise r) new.kernel = e.spends in
+        let one : mid.kernel.writes + left_of o mid.kernel ≤ old.kernel.writes + left_of o old.kernel + 0 = left.spends in
+        let others : new.kernel.writes + left_of o new.kernel ≤ mid.kernel.writes + left_of o mid.kernel + rise r = e.spends in
         record {
           node = e.node;
           ongoing = subst (λ (n : NodeState). IsOngoing new.kernel (owners_of n.containers) o) s.is e.ongoing;
           rest = rest_then o.targets old.kernel mid.kernel new.kernel left.rest e.rest;
           done = e.done;
           failures = omega (arith, first, later);
+          failed = e.failed;
           spends = omega (arith, one, others);
+          exact = λ is.
+              let this : Spends o.targets old.kernel 0 mid.kernel = left.exact is in
+              let those : Spends o.targets mid.kernel (rise r) new.kernel = e.exact is in
+              omega (arith, this, those);
           spent = e.spent;
           is = e.is ∙ ap (λ (n : NodeState). record n { kernel = new.kernel; phase = phase; ongoing = None }) s.is;
         }
@@ -114,8 +125,7 @@ module _ (law : StepsLeave) (o : Ongoing) where
   settles old new h was f =
       let e = all_steps (Ok Done) Settled refl f.steps old f.mid new h was f.more f.ends in
       let failures : new.kernel.failures ≡ old.kernel.failures + 0 = e.failures in
-      let spends : Spends o.targets old.kernel 0 new.kernel = e.spends in
-      let none : writes_to_come o.targets new.kernel ≡ 0 = e.spent refl in
+      let spends : new.kernel.writes + left_of o new.kernel ≤ old.kernel.writes + left_of o old.kernel + 0 = e.spends in
       record {
         node = e.node;
         targets = e.done refl;
@@ -123,7 +133,11 @@ module _ (law : StepsLeave) (o : Ongoing) where
         table = e.rest.table;
         online = e.rest.online;
         failures = omega (arith, failures);
-        made = omega (arith, spends, none);
+        made = λ is.
+            let exact : Spends o.targets old.kernel 0 new.kernel = e.exact is in
+            let none : writes_to_come o.targets new.kernel ≡ 0 = e.spent is refl in
+            omega (arith, exact, none);
+        few = omega (arith, spends);
         machine = ap (λ (n : NodeState). n.machine) e.is;
         parent = ap (λ (n : NodeState). n.parent) e.is;
         containers = ap (λ (n : NodeState). n.containers) e.is;
@@ -136,14 +150,16 @@ module _ (law : StepsLeave) (o : Ongoing) where
   pub breaks : (fault : KernelFault) (old new : NodeState) → IsNode old → old.ongoing ≡ Some o → Finishes old (Err fault) new → Breaks o fault old new
   breaks fault old new h was f =
       let e = all_steps (Err fault) Unsettled refl f.steps old f.mid new h was f.more f.ends in
-      let failed : fault ≡ Failed = f.ends.steps.0 in
+      let failed : fault ≡ Failed = e.failed in
       let failures : new.kernel.failures ≡ old.kernel.failures + 1 = e.failures ∙ ap (λ x. old.kernel.failures + rise {A = Progress} (Err x)) failed in
       record {
         node = e.node;
         broken = record { since = e.ongoing.since; rest = e.rest };
         failed = failed;
         failures = failures;
-        spends = subst (λ n. Spends o.targets old.kernel n new.kernel) (ap (λ x. rise {A = Progress} (Err x)) failed) e.spends;
+        few = (let spends : new.kernel.writes + left_of o new.kernel ≤ old.kernel.writes + left_of o old.kernel + 1 =
+            subst (λ n. new.kernel.writes + left_of o new.kernel ≤ old.kernel.writes + left_of o old.kernel + n) (ap (λ x. rise {A = Progress} (Err x)) failed) e.spends in
+            omega (arith, spends));
         machine = ap (λ (n : NodeState). n.machine) e.is;
         parent = ap (λ (n : NodeState). n.parent) e.is;
         containers = ap (λ (n : NodeState). n.containers) e.is;
@@ -160,12 +176,12 @@ phase_after (Err fault) = Unsettled
 
 -- the writes of the open hand-over, made to its end, as steps of the node
 module _ (o : Ongoing) where
-  more_of : (count : ℕ) (old : NodeState) (k : KernelState) → old.ongoing ≡ Some o → plan.StepsMore o.targets count old.kernel k → StepsMore count old (record old { kernel = k })
+  more_of : (count : ℕ) (old : NodeState) (k : KernelState) → old.ongoing ≡ Some o → StepsMoreBy o.order old.machine o count old.kernel k → StepsMore count old (record old { kernel = k })
   more_of zero old k was same = ap (λ (x : KernelState). record old { kernel = x }) same
   more_of (suc count) old k was (mid, steps, more) =
       (record old { kernel = mid }, record { handover = o; was = was; steps = steps; is = refl }, more_of count (record old { kernel = mid }) k was more)
 
-  all_of : (old : NodeState) (k : KernelState) (r : Result (Unit {0}) KernelFault) → old.ongoing ≡ Some o → plan.Finishes o.targets old.kernel r k
+  all_of : (old : NodeState) (k : KernelState) (r : Result (Unit {0}) KernelFault) → old.ongoing ≡ Some o → AllStepsBy o.order old.machine o old.kernel r k
       → Finishes old r (record old { kernel = k; phase = phase_after r; ongoing = None })
   all_of old k (Ok _) was f = record {
     steps = f.steps;
@@ -181,8 +197,8 @@ module _ (o : Ongoing) where
   }
 
 -- the same of the node as the program keeps it
-module _ (law : StepsLeave) (n : NodeState) (h : IsNode n) (o : Ongoing) (was : n.ongoing ≡ Some o) (k : KernelState) (r : Result (Unit {0}) KernelFault)
-    (f : plan.Finishes o.targets n.kernel r k) (x : Option Ongoing) (none : x ≡ None) where
+module _ (law : OrdersLeave) (n : NodeState) (h : IsNode n) (o : Ongoing) (was : n.ongoing ≡ Some o) (k : KernelState) (r : Result (Unit {0}) KernelFault)
+    (f : AllStepsBy o.order n.machine o n.kernel r k) (x : Option Ongoing) (none : x ≡ None) where
   pub finished : (now : NodeState) → n ≡ now → Finishes now r (record n { kernel = k; phase = phase_after r; ongoing = x })
   finished now is =
       subst (λ (y : Option Ongoing). Finishes now r (record n { kernel = k; phase = phase_after r; ongoing = y })) (sym none)

@@ -23,12 +23,13 @@ use Rattle.faults.specs.declared.OrMemory.{OrMemory}
 use Rattle.faults.specs.declared.OrMemory.TheVariants.{Memory, Fault}
 use Rattle.kernel_model.specs.declared.KernelFault.{KernelFault}
 use Rattle.apply_plan.specs.Holders.{Pairwise}
-use Rattle.apply_plan.specs.OneStep.{StepsLeave}
-use Rattle.apply_plan.specs.Runs.{FewToCome}
-use Rattle.apply_plan.specs.DueWrite.{writes_to_come, Spends}
+use Rattle.apply_plan.specs.DueWrite.{writes_to_come}
+use Rattle.apply_plan.specs.MayWrite.{left_directly}
 use Rattle.apply_plan.specs.Effects.{HasFreeParent, TargetsTakeEffect}
 use Rattle.node.specs.declared.fault.NodeFault.{NodeFault}
 use Rattle.node.specs.declared.fault.NodeFault.TheVariants.{Busy, Kernel}
+use Rattle.node.specs.declared.order.Order.{Order}
+use Rattle.node.specs.declared.order.Order.TheVariants.{InTurn, Directly}
 use Rattle.node.specs.declared.outcome.Outcome.{Outcome}
 use Rattle.node.specs.declared.outcome.Outcome.TheVariants.{Plan, Short}
 use Rattle.node.specs.declared.phase.Phase.TheVariants.{Underway}
@@ -48,10 +49,12 @@ use Rattle.node.specs.RebalanceLeaves.{RebalanceLeaves}
 use Rattle.node.proofs.ListLemmas.{all_map, all_map2, pairs_map, all_of_map, of_all_map}
 use Rattle.node.proofs.AskingLemmas.{home, rows_are_weighed, short_stands}
 use Rattle.node.proofs.DistanceLemmas.{plan_back}
-use Rattle.node.specs.Written.{live_count, RebalanceWrites}
+use Rattle.node.specs.Orders.{left_of}
+use Rattle.node.specs.Written.{live_count, MakesThose, RebalanceWrites}
 use Rattle.node.proofs.EntryCount.{entries_live}
 use Rattle.node.proofs.BestLemmas.{best_costs, best_least}
 use Rattle.node.proofs.FinishLemmas.{Settles, Breaks, settles, breaks}
+use Rattle.node.proofs.OrderLemmas.{OrdersLeave, FewBy}
 use Rattle.node.proofs.PlanLemmas.{IsDealt, over_targets, pool_has_rest, plan_serves, plan_parts, plan_effects, opened_ongoing, effects_later}
 use Rattle.certificate.specs.PlanFault.{is_held}
 
@@ -89,12 +92,12 @@ still_its k new same m pool d (Pinned count) cpus h = record {
 still_its k new same m pool d Shared cpus h = h
 
 -- once the hand-over to a plan is open
-abbrev underway : NodeState → List Ids → Option Certificate → NodeState
-underway old sets last = record old { pool = plan_pool old sets; phase = Underway; ongoing = Some (opened old sets); last = last }
+abbrev underway : Order → NodeState → List Ids → Option Certificate → NodeState
+underway order old sets last = record old { pool = plan_pool old sets; phase = Underway; ongoing = Some (opened order old sets); last = last }
 
 -- and once it has ended
-module _ (old : NodeState) (h : IsNode old) (effects : TargetsTakeEffect) (sets : List Ids) (plan_could : CouldHave old sets)
-    (last : Option Certificate) (new : NodeState) (s : Settles (opened old sets) (underway old sets last) new) where
+module _ (order : Order) (old : NodeState) (h : IsNode old) (effects : TargetsTakeEffect) (sets : List Ids) (plan_could : CouldHave old sets)
+    (last : Option Certificate) (new : NodeState) (s : Settles (opened order old sets) (underway order old sets last) new) where
   still_live : (c : ContainerState) → is_live new.kernel c ≡ is_live old.kernel c
   still_live c = ap (λ t. is_alive t c.pid) s.table
 
@@ -247,27 +250,35 @@ module _ (old : NodeState) (h : IsNode old) (effects : TargetsTakeEffect) (sets 
     costs = best_costs old h weigh total sets best ∙ ap (λ (ss : List Ids). cost (rows_of old) (as_cores old.machine ss) * old.machine.threads) (sym same_sets);
   }
 
+-- how many writes a hand-over to these sets made
+made_those : (order : Order) (old : NodeState) (sets : List Ids) (new : NodeState)
+    → (order ≡ InTurn → new.kernel.writes ≡ old.kernel.writes + writes_to_come (opened order old sets).targets old.kernel)
+    → new.kernel.writes ≤ old.kernel.writes + left_of (opened order old sets) old.kernel → sets ≡ effective_sets new.kernel new.containers → MakesThose order old new
+made_those InTurn old sets new exact most same = exact refl ∙ ap (λ (ss : List Ids). old.kernel.writes + writes_to_come (opened InTurn old ss).targets old.kernel) same
+made_those Directly old sets new exact most same =
+    subst (λ (ss : List Ids). new.kernel.writes ≤ old.kernel.writes + left_directly (opened Directly old ss).targets old.kernel) same most
+
 -- after each of the calls, whatever it answers
-module _ (old : NodeState) (h : IsNode old) where
+module _ (order : Order) (old : NodeState) (h : IsNode old) where
   -- the CPUs that a plan gives
-  abbrev begun_sets : {total : ℕ} {mid : NodeState} → Begun old total mid → List Ids
+  abbrev begun_sets : {total : ℕ} {mid : NodeState} → Begun order old total mid → List Ids
   begun_sets b = as_cpus old.machine b.plan
 
-  begun_as : (sets : List Ids) → CouldHave old sets → (c : Certificate) → IsKept c → IsNode (underway old sets (Some c))
+  begun_as : (sets : List Ids) → CouldHave old sets → (c : Certificate) → IsKept c → IsNode (underway order old sets (Some c))
   begun_as sets could c kept = record {
     layout = h.layout;
     machine = h.machine;
     holds = h.holds;
     few = h.few;
     asked = h.asked;
-    stands = (refl, opened_ongoing old h sets could);
+    stands = (refl, opened_ongoing old h sets could order);
     proved = kept;
   }
 
-  begun_is : (total : ℕ) (mid : NodeState) (b : Begun old total mid) → IsNode (underway old (begun_sets b) (Some (planned old b.plan b.prices b.whole)))
+  begun_is : (total : ℕ) (mid : NodeState) (b : Begun order old total mid) → IsNode (underway order old (begun_sets b) (Some (planned old b.plan b.prices b.whole)))
   begun_is total mid b = begun_as (begun_sets b) b.best.could (planned old b.plan b.prices b.whole) b.kept
 
-  pub begun_node : (total : ℕ) (new : NodeState) → Begun old total new → IsNode new
+  pub begun_node : (total : ℕ) (new : NodeState) → Begun order old total new → IsNode new
   begun_node total new b = subst (λ (n : NodeState). IsNode n) (sym b.is) (begun_is total new b)
 
   pub lacks_node : (wanted : ℕ) (allowed : Ids) (new : NodeState) → Lacks old wanted allowed new → IsNode new
@@ -281,7 +292,7 @@ module _ (old : NodeState) (h : IsNode old) where
     proved = l.kept;
   })
 
-  pub begins_node : (r : Result Outcome (OrMemory NodeFault)) (new : NodeState) → Begins old r new → IsNode new
+  pub begins_node : (r : Result Outcome (OrMemory NodeFault)) (new : NodeState) → Begins order old r new → IsNode new
   begins_node (Ok (Plan total)) new b = begun_node total new b
   begins_node (Ok (Short wanted allowed)) new l = lacks_node wanted allowed new l
   begins_node (Err Memory) new e = subst (λ (n : NodeState). IsNode n) (sym e.1) h
@@ -289,24 +300,24 @@ module _ (old : NodeState) (h : IsNode old) where
   begins_node (Err (Fault fault)) new e = absurd e
 
   -- and after its steps
-  module _ (law : StepsLeave) where
-    abbrev after_begin : (total : ℕ) (mid : NodeState) → Begun old total mid → NodeState
-    after_begin total mid b = underway old (begun_sets b) (Some (planned old b.plan b.prices b.whole))
+  module _ (law : OrdersLeave) where
+    abbrev after_begin : (total : ℕ) (mid : NodeState) → Begun order old total mid → NodeState
+    after_begin total mid b = underway order old (begun_sets b) (Some (planned old b.plan b.prices b.whole))
 
-    moved_settles : (total : ℕ) (new : NodeState) (m : Moves old total (Ok tt) new) → Settles (opened old (begun_sets m.begun)) (after_begin total m.mid m.begun) new
+    moved_settles : (total : ℕ) (new : NodeState) (m : Moves order old total (Ok tt) new) → Settles (opened order old (begun_sets m.begun)) (after_begin total m.mid m.begun) new
     moved_settles total new m =
         let b = m.begun in
-        settles law (opened old (begun_sets b)) (after_begin total m.mid b) new (begun_is total m.mid b) refl
+        settles law (opened order old (begun_sets b)) (after_begin total m.mid b) new (begun_is total m.mid b) refl
         (subst (λ (n : NodeState). Finishes n (Ok tt) new) b.is m.finishes)
 
-    moved_breaks : (total : ℕ) (fault : KernelFault) (new : NodeState) (m : Moves old total (Err fault) new)
-        → Breaks (opened old (begun_sets m.begun)) fault (after_begin total m.mid m.begun) new
+    moved_breaks : (total : ℕ) (fault : KernelFault) (new : NodeState) (m : Moves order old total (Err fault) new)
+        → Breaks (opened order old (begun_sets m.begun)) fault (after_begin total m.mid m.begun) new
     moved_breaks total fault new m =
         let b = m.begun in
-        breaks law (opened old (begun_sets b)) fault (after_begin total m.mid b) new (begun_is total m.mid b) refl
+        breaks law (opened order old (begun_sets b)) fault (after_begin total m.mid b) new (begun_is total m.mid b) refl
         (subst (λ (n : NodeState). Finishes n (Err fault) new) b.is m.finishes)
 
-    pub rebalances_node : (r : Result Outcome (OrMemory NodeFault)) (new : NodeState) → Rebalances old r new → IsNode new
+    pub rebalances_node : (r : Result Outcome (OrMemory NodeFault)) (new : NodeState) → Rebalances order old r new → IsNode new
     rebalances_node (Ok (Plan total)) new m = (moved_settles total new m).node
     rebalances_node (Ok (Short wanted allowed)) new l = lacks_node wanted allowed new l
     rebalances_node (Err Memory) new e = begins_node (Err Memory) new e
@@ -315,7 +326,7 @@ module _ (old : NodeState) (h : IsNode old) where
     rebalances_node (Err (Fault fault)) new e = absurd e
 
     -- what it told of the cores
-    begun_told : RowsWeigh → (total : ℕ) (mid : NodeState) (b : Begun old total mid) → IsTold old (begun_sets b) total (Some (planned old b.plan b.prices b.whole))
+    begun_told : RowsWeigh → (total : ℕ) (mid : NodeState) (b : Begun order old total mid) → IsTold old (begun_sets b) total (Some (planned old b.plan b.prices b.whole))
     begun_told weigh total mid b = record {
       prices = b.prices;
       whole = b.whole;
@@ -326,7 +337,7 @@ module _ (old : NodeState) (h : IsNode old) where
           (sym (plan_back old h (home old.machine) (rows_of old) (rows_are_weighed old h weigh) b.plan b.least.plan));
     }
 
-    pub broken_off : RowsWeigh → (total : ℕ) (fault : KernelFault) (new : NodeState) → Moves old total (Err fault) new → IsBrokenOff old new
+    pub broken_off : RowsWeigh → (total : ℕ) (fault : KernelFault) (new : NodeState) → Moves order old total (Err fault) new → IsBrokenOff order old new
     broken_off weigh total fault new m =
         let b = moved_breaks total fault new m in
         record {
@@ -343,14 +354,14 @@ module _ (old : NodeState) (h : IsNode old) where
           same = b.containers;
         }
 
-    pub breaks_off : RowsWeigh → (r : Result Outcome (OrMemory NodeFault)) (new : NodeState) → Rebalances old r new → BreaksOff old r new
+    pub breaks_off : RowsWeigh → (r : Result Outcome (OrMemory NodeFault)) (new : NodeState) → Rebalances order old r new → BreaksOff order old r new
     breaks_off weigh (Ok outcome) new m = tt
     breaks_off weigh (Err (Fault (Kernel fault))) new m = broken_off weigh m.0 fault new m.1
     breaks_off weigh (Err (Fault fault)) new e = tt
     breaks_off weigh (Err Memory) new e = tt
 
     -- a failure is counted, and nothing else is
-    pub rebalance_counts : (r : Result Outcome (OrMemory NodeFault)) (new : NodeState) → Rebalances old r new → new.kernel.failures ≡ old.kernel.failures + rise_or_memory r
+    pub rebalance_counts : (r : Result Outcome (OrMemory NodeFault)) (new : NodeState) → Rebalances order old r new → new.kernel.failures ≡ old.kernel.failures + rise_or_memory r
     rebalance_counts (Ok (Plan total)) new m = let same : new.kernel.failures ≡ old.kernel.failures = (moved_settles total new m).failures in omega (arith, same)
     rebalance_counts (Ok (Short wanted allowed)) new l = let same : new.kernel.failures ≡ old.kernel.failures = ap (λ (n : NodeState). n.kernel.failures) l.is in omega (arith, same)
     rebalance_counts (Err Memory) new e = let same : new.kernel.failures ≡ old.kernel.failures = ap (λ (n : NodeState). n.kernel.failures) e.1 in omega (arith, same)
@@ -361,44 +372,44 @@ module _ (old : NodeState) (h : IsNode old) where
     rebalance_counts (Err (Fault fault)) new e = absurd e
 
     -- at most two writes for each live container succeed
-    module _ (effects : TargetsTakeEffect) (few : FewToCome) where
-      opened_few : (sets : List Ids) → writes_to_come (opened old sets).targets old.kernel ≤ 2 * live_count old
+    module _ (effects : TargetsTakeEffect) (few : FewBy) where
+      opened_few : (sets : List Ids) → left_of (opened order old sets) old.kernel ≤ 2 * live_count old
       opened_few sets =
-          let most : writes_to_come (opened old sets).targets old.kernel ≤ 2 * length (plan_entries old sets) = few (opened old sets).targets old.kernel in
+          let most : left_of (opened order old sets) old.kernel ≤ 2 * length (plan_entries old sets) = few order (opened order old sets).targets old.kernel in
           let live : length (plan_entries old sets) ≡ live_count old = entries_live old.kernel (plan_pool old sets) old.containers sets in
           omega (arith, most, live)
 
-      pub rebalance_makes : (r : Result Outcome (OrMemory NodeFault)) (new : NodeState) → Rebalances old r new → RebalanceWrites old r new
+      pub rebalance_makes : (r : Result Outcome (OrMemory NodeFault)) (new : NodeState) → Rebalances order old r new → RebalanceWrites order old r new
       rebalance_makes (Ok (Plan total)) new m =
           let b = m.begun in
           let s = moved_settles total new m in
-          let made : new.kernel.writes ≡ old.kernel.writes + writes_to_come (opened old (begun_sets b)).targets old.kernel = s.made in
+          let most : new.kernel.writes ≤ old.kernel.writes + left_of (opened order old (begun_sets b)) old.kernel = s.few in
           record {
-            exact = made ∙ ap (λ (ss : List Ids). old.kernel.writes + writes_to_come (opened old ss).targets old.kernel)
-                (sym (same_sets old h effects (begun_sets b) b.best.could (Some (planned old b.plan b.prices b.whole)) new s));
-            few = omega (arith, made, opened_few (begun_sets b));
+            exact = made_those order old (begun_sets b) new s.made most
+                (sym (same_sets order old h effects (begun_sets b) b.best.could (Some (planned old b.plan b.prices b.whole)) new s));
+            few = omega (arith, most, opened_few (begun_sets b));
           }
       rebalance_makes (Ok (Short wanted allowed)) new l = ap (λ (n : NodeState). n.kernel.writes) l.is
       rebalance_makes (Err Memory) new e = ap (λ (n : NodeState). n.kernel.writes) e.1
       rebalance_makes (Err (Fault (Kernel fault))) new m =
-          let spends : Spends (opened old (begun_sets m.1.begun)).targets old.kernel 1 new.kernel = (moved_breaks m.0 fault new m.1).spends in
-          omega (arith, spends, opened_few (begun_sets m.1.begun))
+          let most : new.kernel.writes ≤ old.kernel.writes + left_of (opened order old (begun_sets m.1.begun)) old.kernel + 1 = (moved_breaks m.0 fault new m.1).few in
+          omega (arith, most, opened_few (begun_sets m.1.begun))
       rebalance_makes (Err (Fault Busy)) new e = ap (λ (n : NodeState). n.kernel.writes) e.1
       rebalance_makes (Err (Fault fault)) new e = absurd e
 
     module _ (effects : TargetsTakeEffect) where
-      pub rebalanced : (total : ℕ) (new : NodeState) → Moves old total (Ok tt) new → IsRebalanced old total new
+      pub rebalanced : (total : ℕ) (new : NodeState) → Moves order old total (Ok tt) new → IsRebalanced old total new
       rebalanced total new m =
           let b = m.begun in
-          settled old h effects (begun_sets b) b.best.could (Some (planned old b.plan b.prices b.whole)) new (moved_settles total new m) total b.best
+          settled order old h effects (begun_sets b) b.best.could (Some (planned old b.plan b.prices b.whole)) new (moved_settles total new m) total b.best
 
-      plan_told : RowsWeigh → (total : ℕ) (new : NodeState) → Moves old total (Ok tt) new → TellsPlan old total new
+      plan_told : RowsWeigh → (total : ℕ) (new : NodeState) → Moves order old total (Ok tt) new → TellsPlan old total new
       plan_told weigh total new m =
           let b = m.begun in
-          told_settled old h effects (begun_sets b) b.best.could (Some (planned old b.plan b.prices b.whole)) new (moved_settles total new m) weigh total b.best
+          told_settled order old h effects (begun_sets b) b.best.could (Some (planned old b.plan b.prices b.whole)) new (moved_settles total new m) weigh total b.best
           (begun_told weigh total m.mid b)
 
-      pub headline : RowsWeigh → ScaledRowsWeigh → (r : Result Outcome (OrMemory NodeFault)) (new : NodeState) → Rebalances old r new → Headline old r new
+      pub headline : RowsWeigh → ScaledRowsWeigh → (r : Result Outcome (OrMemory NodeFault)) (new : NodeState) → Rebalances order old r new → Headline old r new
       headline weigh parts (Ok (Plan total)) new m = rebalanced total new m
       headline weigh parts (Ok (Short wanted allowed)) new l = (short_stands old h weigh parts wanted allowed new l).0
       headline weigh parts (Err (Fault (Kernel fault))) new m = (moved_breaks m.0 fault new m.1).failed
@@ -406,11 +417,11 @@ module _ (old : NodeState) (h : IsNode old) where
       headline weigh parts (Err (Fault fault)) new e = absurd e
       headline weigh parts (Err Memory) new e = e.1
 
-      pub tells : RowsWeigh → ScaledRowsWeigh → (r : Result Outcome (OrMemory NodeFault)) (new : NodeState) → Rebalances old r new → Tells old r new
+      pub tells : RowsWeigh → ScaledRowsWeigh → (r : Result Outcome (OrMemory NodeFault)) (new : NodeState) → Rebalances order old r new → Tells old r new
       tells weigh parts (Ok (Plan total)) new m = plan_told weigh total new m
       tells weigh parts (Ok (Short wanted allowed)) new l = (short_stands old h weigh parts wanted allowed new l).1
       tells weigh parts (Err error) new e = tt
 
-      pub rebalance_leaves : RowsWeigh → ScaledRowsWeigh → (r : Result Outcome (OrMemory NodeFault)) (new : NodeState) → Rebalances old r new → RebalanceLeaves old r new
+      pub rebalance_leaves : RowsWeigh → ScaledRowsWeigh → (r : Result Outcome (OrMemory NodeFault)) (new : NodeState) → Rebalances order old r new → RebalanceLeaves order old r new
       rebalance_leaves weigh parts r new m =
           record { headline = headline weigh parts r new m; told = tells weigh parts r new m; broken = breaks_off weigh r new m }

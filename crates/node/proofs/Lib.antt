@@ -9,6 +9,9 @@ pub mod EventLemmas
 pub mod DeleteLemmas
 pub mod FirstLemmas
 pub mod NodeLemmas
+pub mod LeastLemmas
+pub mod OrderLemmas
+pub mod CourseLemmas
 pub mod StepLemmas
 pub mod FinishLemmas
 pub mod CallLemmas

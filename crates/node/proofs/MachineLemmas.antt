@@ -11,7 +11,6 @@ use Rattle.rows.specs.Scaled.{ScaledRowsWeigh}
 use Rattle.rows.specs.Weighs.{RowsWeigh}
 use Rattle.apply_plan.specs.declared.Progress.{Progress}
 use Rattle.apply_plan.specs.declared.Progress.TheVariants.{More, Done}
-use Rattle.apply_plan.specs.OneStep.{StepsLeave}
 use Rattle.apply_plan.specs.Effects.{HasFreeParent, TargetsTakeEffect, SafeInEffect}
 use Rattle.node.specs.declared.fault.NodeFault.{NodeFault}
 use Rattle.node.specs.declared.fault.NodeFault.TheVariants.{Busy, BadId, IdInUse, TooManyContainers, NoContainer, NotCreated, NotRunnable, BadSignal, NotLive, NotStopped, NoHandover, NoAnswer, NotFree, Config, Demand, Kernel}
@@ -25,6 +24,7 @@ use Rattle.node.specs.Rebalance.{StepsOn, StepsMore, Ends}
 use Rattle.node.specs.Machine.{Event, Step, IsOneStep, Run, RunsKeep, RunsStaySafe, RunsStayApart, RebalancesAreSteps, RunsRebalance}
 use Rattle.node.specs.Machine.Event.{Create, Adopt, Update, Start, Kill, Delete, Rebalance, Begin, StepOn, Ask, Fork, Exit, Offline, Online}
 use Rattle.node.proofs.NodeLemmas.{fork_node, exit_node, offline_node, online_node, end_node, remove_refused_node, created_node, not_created_node, updated_node, not_updated_node, deleted_node, started_node}
+use Rattle.node.proofs.OrderLemmas.{OrdersLeave}
 use Rattle.node.proofs.StepLemmas.{more_node, ended_node}
 use Rattle.node.proofs.HeadlineLemmas.{free_parents, begins_node, rebalances_node, rebalance_leaves}
 use Rattle.node.proofs.ListLemmas.{all_of_map}
@@ -112,22 +112,22 @@ module _ (old : NodeState) (h : IsNode old) (new : NodeState) where
   delete_keeps id (Err (Config fault)) d = unchanged d.1
   delete_keeps id (Err (Demand fault)) d = unchanged d.1
 
-  stepped : (law : StepsLeave) (r : Result Progress NodeFault) → StepsOn old r new → IsNode new
+  stepped : (law : OrdersLeave) (r : Result Progress NodeFault) → StepsOn old r new → IsNode new
   stepped law (Ok More) s = moved _ s.is (more_node law old h s.handover s.was new.kernel (Ok More) s.steps)
   stepped law (Ok Done) s = moved _ s.is (ended_node law old h s.handover s.was new.kernel (Ok Done) s.steps Settled refl)
   stepped law (Err (Kernel fault)) s = moved _ s.is (ended_node law old h s.handover s.was new.kernel (Err fault) s.steps Unsettled refl)
   stepped law (Err NoHandover) s = unchanged s.1
   stepped law (Err fault) s = absurd s
 
-  step_keeps : StepsLeave → (event : Event) → Step old event new → IsNode new
+  step_keeps : OrdersLeave → (event : Event) → Step old event new → IsNode new
   step_keeps law (Create id bundle config answer) s = place_keeps old.machine.reserved id bundle config answer s
   step_keeps law (Adopt id bundle config cpus answer) s = place_keeps cpus id bundle config answer s
   step_keeps law (Update id bundle config answer) s = update_keeps id bundle config answer s
   step_keeps law (Start id answer) s = start_keeps id answer s
   step_keeps law (Kill id signal answer) s = kill_keeps id signal answer s
   step_keeps law (Delete id answer) s = delete_keeps id answer s
-  step_keeps law (Rebalance answer) s = rebalances_node old h law answer new s
-  step_keeps law (Begin answer) s = begins_node old h answer new s
+  step_keeps law (Rebalance order answer) s = rebalances_node order old h law answer new s
+  step_keeps law (Begin order answer) s = begins_node order old h answer new s
   step_keeps law (StepOn answer) s = stepped law answer s
   step_keeps law (Ask question) s = unchanged s.1
   step_keeps law (Fork parent answer) s = moved (record old { kernel = new.kernel }) s.1 (fork_node old h new.kernel parent answer s.0)
@@ -135,7 +135,7 @@ module _ (old : NodeState) (h : IsNode old) (new : NodeState) where
   step_keeps law (Offline cpu answer) s = moved (record old { kernel = new.kernel }) s.1 (offline_node old h new.kernel cpu answer s.0)
   step_keeps law (Online cpu answer) s = moved (record old { kernel = new.kernel }) s.1 (online_node old h new.kernel cpu answer s.0)
 
-module _ (law : StepsLeave) where
+module _ (law : OrdersLeave) where
   pub runs_keep : RunsKeep
   runs_keep old [] new h r = subst (λ (n : NodeState). IsNode n) (sym r) h
   runs_keep old (event ∷ later) new h r = runs_keep r.0 later new (step_keeps old h r.0 law event r.1) r.2
@@ -151,7 +151,7 @@ module _ (law : StepsLeave) where
       (all_of_map (λ o. o.holder) (λ a. HasFreeParent new.kernel a.group) owners (free_parents new.kernel new.parent owners holds)) online holds.safe
 
   pub runs_rebalance : TargetsTakeEffect → RowsWeigh → ScaledRowsWeigh → RunsRebalance
-  runs_rebalance effects weigh parts first events old answer new h r b = rebalance_leaves old (runs_keep first events old h r) law effects weigh parts answer new b
+  runs_rebalance effects weigh parts first events order old answer new h r b = rebalance_leaves order old (runs_keep first events old h r) law effects weigh parts answer new b
 
 -- the steps to the end of a hand-over, as events
 steps_run : (count : ℕ) (old mid new : NodeState) (answer : Result (Unit {0}) KernelFault) → StepsMore count old mid → Ends mid answer new
@@ -163,6 +163,6 @@ steps_run (suc count) old mid new answer more ends =
     let later = steps_run count more.0 mid new answer more.2 ends in (StepOn (Ok More) ∷ later.0, (tt, later.1), (more.0, more.1, later.2))
 
 pub rebalances_are_steps : RebalancesAreSteps
-rebalances_are_steps old total answer new m =
+rebalances_are_steps order old total answer new m =
     let steps = steps_run m.finishes.steps m.mid m.finishes.mid new answer m.finishes.more m.finishes.ends in
     (steps.0, steps.1, (m.mid, m.begun, steps.2))

@@ -2,7 +2,8 @@
 use Rattle.std.proofs.Common.{◌≡◌, inl, inr, Bool, true, false, List, [], ◌∷◌, Option, Some, None, refl, sym, ap, ◌∙◌, subst}
 use Rattle.std.proofs.lemmas.Bool.{false≢true}
 use Rattle.std.specs.Prelude.{map}
-use Rattle.std.specs.List.{AllByRecursion, AllZip}
+use Rattle.std.specs.List.{AllByRecursion}
+use Rattle.std.specs.FinSet as set
 use Rattle.cpu_set.specs.Ids.{Ids}
 use Rattle.cpuset_tree.specs.Groups.{requested_cpus}
 use Rattle.proctable.specs.TableState.{TableState}
@@ -13,10 +14,14 @@ use Rattle.apply_plan.specs.Holders.{Holder, Pairwise, AreApart, HasSome, IsSafe
 use Rattle.apply_plan.specs.Kept.{kept}
 use Rattle.apply_plan.specs.Targets.{holder_of, holders_of}
 use Rattle.apply_plan.specs.DueWrite.{held}
+use Rattle.apply_plan.specs.Directed.{allowed_of}
+use Rattle.node.specs.declared.order.Order.{Order}
+use Rattle.node.specs.declared.order.Order.TheVariants.{InTurn, Directly}
 use Rattle.node.specs.NodeState.{Ongoing}
+use Rattle.node.specs.Orders.{directed_of}
 use Rattle.node.specs.Owners.{Owner}
-use Rattle.node.specs.Ongoing.{AreOf, IsSince, IsOngoing, Stands}
-use Rattle.node.proofs.ListLemmas.{all_of, all_map, all_of_map, of_all_map, pairs_of_map, of_pairs_map}
+use Rattle.node.specs.Ongoing.{AreOf, IsSince, IsOnWay, AreSince, IsOngoing, Stands}
+use Rattle.node.proofs.ListLemmas.{all_of, all_map, zip_map, all_of_map, of_all_map, pairs_of_map, of_pairs_map}
 use Rattle.node.proofs.HoldsLemmas.{EachKept, of_safe, to_safe}
 
 abbrev Dead : KernelState → Holder → Type 0
@@ -127,12 +132,23 @@ module _ (old new : KernelState) where
   still_since reserve e found same (inr (inl x)) = inr (inl (same ∙ x ∙ ap (λ r. kept r e.target found) (sym reserve)))
   still_since reserve e found same (inr (inr x)) = inr (inr (same ∙ x))
 
-  all_since : (reserve : new.reserved ≡ old.reserved) (entries : List Entry) (found : List Ids) → AllByRecursion (λ e. held new e ≡ held old e) entries
-      → AllZip (IsSince old old.reserved) entries found → AllZip (IsSince new new.reserved) entries found
-  all_since reserve [] [] h s = tt
-  all_since reserve [] (f ∷ found) h s = absurd s
-  all_since reserve (e ∷ entries) [] h s = absurd s
-  all_since reserve (e ∷ entries) (f ∷ found) h s = (still_since reserve e f h.0 s.0, all_since reserve entries found h.1 s.1)
+  still_on_way : (reserve : new.reserved ≡ old.reserved) (allowed : Ids) (e : Entry) (found : Ids) → held new e ≡ held old e
+      → IsOnWay old old.reserved allowed e found → IsOnWay new new.reserved allowed e found
+  still_on_way reserve allowed e found same way =
+      subst (λ r. IsOnWay new r allowed e found) (sym reserve) (record {
+        keeps = λ q f t. ap (λ s. set.contains s q) same ∙ way.keeps q f t;
+        within = λ q x. way.within q (ap (λ s. set.contains s q) (sym same) ∙ x);
+      })
+
+  all_since : (order : Order) (o : Ongoing) → new.reserved ≡ old.reserved → AllByRecursion (λ e. held new e ≡ held old e) o.targets.entries
+      → AreSince order old o → AreSince order new o
+  all_since InTurn o reserve same since =
+      zip_map (λ e. held new e ≡ held old e) (IsSince old old.reserved) (IsSince new new.reserved) (λ e found s i. still_since reserve e found s i)
+      o.targets.entries o.requested_at_begin same since
+  all_since Directly o reserve same since =
+      zip_map (λ e. held new e ≡ held old e) (λ e found. IsOnWay old old.reserved (allowed_of (directed_of o) e) e found)
+      (λ e found. IsOnWay new new.reserved (allowed_of (directed_of o) e) e found) (λ e found s i. still_on_way reserve (allowed_of (directed_of o) e) e found s i)
+      o.targets.entries o.requested_at_begin same since
 
   -- where each container's group requests what it did, and who lives lived before, the hand-over stays open
   module _ (owners : List Owner) (reserve : new.reserved ≡ old.reserved) (each : AllByRecursion (EachKept old new) owners) where
@@ -141,7 +157,8 @@ module _ (old new : KernelState) where
       handover = h.handover;
       reserved = h.reserved ∙ sym reserve;
       of = still_of o.targets.entries owners (all_map (EachKept old new) Dies (λ x c. c.dies) owners each) h.of;
-      since = all_since reserve o.targets.entries o.requested_at_begin
+      ranged = h.ranged;
+      since = all_since o.order o reserve
           (of_entries old (λ x. requested_cpus new.tree x.group ≡ requested_cpus old.tree x.group) o.targets.entries owners h.of
           (all_map (EachKept old new) (λ x. requested_cpus new.tree x.holder.group ≡ requested_cpus old.tree x.holder.group) (λ x c. c.requested) owners each))
           h.since;

@@ -24,10 +24,15 @@ use Rattle.node.specs.NodeState.{ContainerState, Ongoing, NodeState}
 use Rattle.node.specs.Owners.{Owner, is_pinned, owner_of, owners_of}
 use Rattle.node.specs.Status.{is_live}
 use Rattle.node.specs.Best.{AreOwn, CouldHave, is_asking, wanted_by}
-use Rattle.node.specs.Entries.{pool_of, Target, targets_in, entry_of, entries_in, plan_pool, plan_targets, plan_entries, opened}
+use Rattle.node.specs.declared.order.Order.{Order}
+use Rattle.node.specs.declared.order.Order.TheVariants.{InTurn, Directly}
+use Rattle.node.specs.Entries.{pool_of, Target, targets_in, entry_of, entries_in, plan_pool, plan_targets, plan_entries, allowed_in, allowed_by, opened}
 use Rattle.node.specs.Headline.{HasItsCpus}
 use Rattle.node.specs.IsNode.{IsAsked, IsNode, HaveOtherIds, IsPlaced}
-use Rattle.node.specs.Ongoing.{AreOf, IsSince, IsOngoing}
+use Rattle.node.specs.Ongoing.{AreOf, IsSince, IsOnWay, AreSince, IsOngoing}
+use Rattle.node.specs.Orders.{directed_of}
+use Rattle.apply_plan.specs.Directed.{allowed_of, IsDirected}
+use Rattle.cpu_set.specs.Members.{InRange}
 use Rattle.node.proofs.DistanceLemmas.{pairs_by_recursion}
 use Rattle.node.proofs.ListLemmas.{all_map, all_of, pairs_map, all_of_map, of_all_map, pairs_of_map, of_pairs_map}
 use Rattle.node.proofs.LaunchLemmas.{names_apart, is_there}
@@ -141,6 +146,23 @@ not_empty_above s t some within = by (is_empty t) refl where
   by true is =
       let nothing : s ≡ set.empty = empty_of_none s (λ c _. none is c (set.contains s c) refl) in
       absurd (false≢true (sym some ∙ is_empty-empty s nothing))
+
+-- what containers are allowed is such as a set may have
+module _ (n : NodeState) (h : IsNode n) where
+  one_range : (e : Container) → IsAsked n.machine e → InRange e.1.demand.allowed
+  one_range e asked cpu has = h.layout.in_range cpu (asked.fits.present cpu has)
+
+  live_range : (es : List Container) → AllByRecursion (IsAsked n.machine) es → AllByRecursion InRange (allowed_in n.kernel es)
+  live_range [] asked = tt
+  live_range (e ∷ es) asked = by (live_range es asked.1) (is_live n.kernel e.1) where
+    by : AllByRecursion InRange (allowed_in n.kernel es) → (b : Bool)
+        → AllByRecursion InRange (map (λ x. x.1.demand.allowed) (cond b (e ∷ filter (λ x. is_live n.kernel x.1) es) (filter (λ x. is_live n.kernel x.1) es)))
+    by later true = (one_range e asked.0, later)
+    by later false = later
+
+  pub allowed_range : (order : Order) → AllByRecursion InRange (allowed_by order n)
+  allowed_range InTurn = tt
+  allowed_range Directly = live_range n.containers h.asked
 
 -- what holds of sets that a node's containers could have
 module _ (n : NodeState) (h : IsNode n) where
@@ -305,7 +327,7 @@ module _ (n : NodeState) (h : IsNode n) where
         (λ e later s ss ts d on. inl (record { entry = entry_of (e, s); later = map entry_of ts; is = refl; of = refl; rest = on }))
         n.containers h.asked sets could.own
 
-    plan_handover : IsHandover (opened n sets).targets
+    plan_handover : IsHandover (record { entries = plan_entries n sets; reserved = n.machine.reserved })
     plan_handover = record {
       groups = pairs_of_map entry_of HaveOtherGroups (plan_targets n sets) plan_groups.pairs;
       apart = pairs_of_map entry_of (AreTargetsApart n.machine.reserved) (plan_targets n sets)
@@ -315,11 +337,25 @@ module _ (n : NodeState) (h : IsNode n) where
       reserve = reserved_some;
     }
 
-    pub opened_ongoing : IsOngoing k (owners_of n.containers) (opened n sets)
-    opened_ongoing = record { handover = plan_handover; reserved = sym h.machine.reserved; of = plan_of; since = still_held (plan_entries n sets) } where
+    pub opened_ongoing : (order : Order) → IsOngoing k (owners_of n.containers) (opened order n sets)
+    opened_ongoing order = record {
+      handover = plan_handover;
+      reserved = sym h.machine.reserved;
+      of = plan_of;
+      ranged = allowed_range n h order;
+      since = since order;
+    } where
       still_held : (es : List Entry) → AllZip (IsSince k k.reserved) es (map (held k) es)
       still_held [] = tt
       still_held (e ∷ es) = (inl refl, still_held es)
+
+      on_way : (allowed : Entry → Ids) (es : List Entry) → AllZip (λ e found. IsOnWay k k.reserved (allowed e) e found) es (map (held k) es)
+      on_way allowed [] = tt
+      on_way allowed (e ∷ es) = (record { keeps = λ q f t. f; within = λ q x. inl x }, on_way allowed es)
+
+      since : (by : Order) → AreSince by k (opened order n sets)
+      since InTurn = still_held (plan_entries n sets)
+      since Directly = on_way (allowed_of (directed_of (opened order n sets))) (plan_entries n sets)
 
 -- what can take effect can as long as the same CPUs are online
 pub effects_later : (old new : KernelState) → new.tree.online ≡ old.tree.online → (es : List Entry) → AllByRecursion (CanTakeEffect old) es → AllByRecursion (CanTakeEffect new) es
@@ -338,13 +374,33 @@ module _ (n now : NodeState) (is : n ≡ now) (h : IsNode n) (sets : List Ids) (
   pub entries_placed : ArePlaced n.kernel es
   entries_placed = subst (ArePlaced n.kernel) (sym entries_are) (plan_placed n h sets could_before)
 
+  -- the hand-over of these entries, of which the groups request this, is the one that is opened
+  abbrev pub handover_of : Order → List Entry → List Ids → Ongoing
+  handover_of order xs found =
+      record { targets = record { entries = xs; reserved = now.machine.reserved }; requested_at_begin = found; order = order; allowed = allowed_by order now }
+
+  pub opened_is : (order : Order) (found : List Ids) → found ≡ map (held n.kernel) es → (o : Ongoing) → o ≡ handover_of order es found → o ≡ opened order now sets
+  opened_is order found found_are o o_is =
+      let all : es ≡ plan_entries now sets = entries_are ∙ ap (λ (m : NodeState). plan_entries m sets) is in
+      let were : found ≡ map (held now.kernel) (plan_entries now sets) = found_are ∙ ap (λ (m : NodeState). map (held m.kernel) es) is ∙ ap (map (held now.kernel)) all in
+      o_is ∙ ap (λ (xs : List Entry). handover_of order xs found) all ∙ ap (handover_of order (plan_entries now sets)) were
+
   pub entries_handed : (reserved : Ids) → reserved ≡ n.machine.reserved → IsHandover (record { entries = es; reserved = reserved })
   entries_handed reserved same =
       subst (λ (s : Ids). IsHandover (record { entries = es; reserved = s })) (sym same)
       (subst (λ (xs : List Entry). IsHandover (record { entries = xs; reserved = n.machine.reserved })) (sym entries_are) (plan_handover n h sets could_before))
 
-pub opened_stands : (n now : NodeState) → n ≡ now → IsNode n → (sets : List Ids) → CouldHave now sets → (o : Ongoing) → o ≡ opened now sets
+-- such entries may begin in the direct order, with what the containers are allowed
+pub course_begins : (n now : NodeState) → n ≡ now → IsNode n → (es : List Entry) → IsHandover (record { entries = es; reserved = now.machine.reserved })
+    → (reserved : Ids) → reserved ≡ n.machine.reserved → (allowed : List Ids) → allowed ≡ allowed_in n.kernel n.containers
+    → IsDirected (record { targets = record { entries = es; reserved = reserved }; allowed = allowed })
+course_begins n now is h es valid reserved reserve allowed all = record {
+  handover = subst (λ (s : Ids). IsHandover (record { entries = es; reserved = s })) (sym (reserve ∙ ap (λ (m : NodeState). m.machine.reserved) is)) valid;
+  ranged = subst (AllByRecursion InRange) (sym all) (allowed_range n h Directly);
+}
+
+pub opened_stands : (n now : NodeState) → n ≡ now → IsNode n → (sets : List Ids) → CouldHave now sets → (order : Order) (o : Ongoing) → o ≡ opened order now sets
     → IsOngoing now.kernel (owners_of now.containers) o
-opened_stands n now is h sets could o o_is =
+opened_stands n now is h sets could order o o_is =
     let there : IsNode now = subst (λ (m : NodeState). IsNode m) is h in
-    subst (λ (x : Ongoing). IsOngoing now.kernel (owners_of now.containers) x) (sym o_is) (opened_ongoing now there sets could)
+    subst (λ (x : Ongoing). IsOngoing now.kernel (owners_of now.containers) x) (sym o_is) (opened_ongoing now there sets could order)

@@ -13,9 +13,8 @@ use Rattle.proctable.specs.TableState.{TableState}
 use Rattle.rows.specs.Scaled.{ScaledRowsWeigh}
 use Rattle.rows.specs.Weighs.{RowsWeigh}
 use Rattle.apply_plan.specs.Effects.{TargetsTakeEffect}
-use Rattle.apply_plan.specs.OneStep.{StepsLeave}
-use Rattle.apply_plan.specs.Runs.{FewToCome}
 use Rattle.node.specs.declared.fault.NodeFault.TheVariants.{Busy, Kernel}
+use Rattle.node.specs.declared.order.Order.{Order}
 use Rattle.node.specs.declared.outcome.Outcome.TheVariants.{Plan, Short}
 use Rattle.node.specs.NodeState.{ContainerState, NodeState, is_underway}
 use Rattle.node.specs.Status.{is_live}
@@ -24,14 +23,25 @@ use Rattle.node.specs.Written.{live_count, PlanWrites}
 use Rattle.node.specs.BreaksOff.{IsBrokenOff}
 use Rattle.node.specs.Rebalance.{Rebalances}
 use Rattle.node.specs.Standing.{PlanStands, KeepsPlan}
-use Rattle.node.specs.Machine.{Run}
+use Rattle.node.specs.Machine.{Event, Run}
 use Rattle.node.specs.Machine.Event.{Rebalance}
 use Rattle.node.specs.Retries.{Answer, is_answer, IsAnswerOrFailed, failed_in, RetriesEnd}
 use Rattle.node.proofs.HeadlineLemmas.{rebalances_node, broken_off, rebalance_counts, rebalance_makes, headline}
+use Rattle.node.proofs.OrderLemmas.{OrdersLeave, FewBy}
 use Rattle.node.proofs.StandingLemmas.{plan_is_kept, answered_plans_stand}
 
 abbrev Container : Type 0
 Container = List ℕ × ContainerState
+
+-- a rebalance in its order, with its answer
+abbrev Called : Type 0
+Called = Order × Answer
+
+abbrev calls_of : List Called → List Event
+calls_of calls = map (λ c. Rebalance c.0 c.1) calls
+
+abbrev answers_of : List Called → List Answer
+answers_of calls = map (λ c. c.1) calls
 
 -- once more of a number
 times_more : (f per : ℕ) → (suc f + 1) * per ≡ (f + 1) * per + per
@@ -54,7 +64,7 @@ live_alike old new containers table =
     ap (λ (es : List Container). length (filter (λ e. is_live new.kernel e.1) es)) containers
     ∙ ap (λ (t : TableState). length (filter (λ (e : Container). is_live (record new.kernel { table = t }) e.1) old.containers)) table
 
-module _ (law : StepsLeave) (weigh : RowsWeigh) (parts : ScaledRowsWeigh) where
+module _ (law : OrdersLeave) (weigh : RowsWeigh) (parts : ScaledRowsWeigh) where
   -- ---- where a plan stands, all answer, and nothing is written
 
   record Calm (old : NodeState) (answers : List Answer) (new : NodeState) : Type 0 where
@@ -62,24 +72,24 @@ module _ (law : StepsLeave) (weigh : RowsWeigh) (parts : ScaledRowsWeigh) where
     none : failed_in answers ≡ 0
     kernel : new.kernel ≡ old.kernel
 
-  calm : (total : ℕ) (answers : List Answer) (old new : NodeState) → IsNode old → PlanStands old total → Run old (map Rebalance answers) new → Calm old answers new
+  calm : (total : ℕ) (calls : List Called) (old new : NodeState) → IsNode old → PlanStands old total → Run old (calls_of calls) new → Calm old (answers_of calls) new
   calm total [] old new h stands run = record { each = tt; none = refl; kernel = ap (λ (n : NodeState). n.kernel) run }
-  calm total (answer ∷ later) old new h stands (mid, step, run) =
-      by answer step (plan_is_kept old h total stands weigh parts answer mid step) (λ node found still. calm found later mid new node still run) where
-        by : (a : Answer) → Rebalances old a mid → KeepsPlan old total a mid → (IsNode mid → (found : ℕ) → PlanStands mid found → Calm mid later new)
-            → Calm old (a ∷ later) new
+  calm total ((order, answer) ∷ later) old new h stands (mid, step, run) =
+      by answer step (plan_is_kept order old h total stands weigh parts answer mid step) (λ node found still. calm found later mid new node still run) where
+        by : (a : Answer) → Rebalances order old a mid → KeepsPlan old total a mid
+            → (IsNode mid → (found : ℕ) → PlanStands mid found → Calm mid (answers_of later) new) → Calm old (a ∷ answers_of later) new
         by (Ok (Plan found)) m kept rest =
-            let on : Calm mid later new = rest (rebalances_node old h law (Ok (Plan found)) mid m) found (answered_plans_stand law old found mid h m) in
+            let on : Calm mid (answers_of later) new = rest (rebalances_node order old h law (Ok (Plan found)) mid m) found (answered_plans_stand law order old found mid h m) in
             record { each = (inl refl, on.each); none = on.none; kernel = on.kernel ∙ ap (λ (n : NodeState). n.kernel) kept.1 }
         by (Ok (Short wanted allowed)) l kept rest = absurd kept
         by (Err Memory) e kept rest =
-            let on : Calm mid later new = rest (subst (λ (n : NodeState). IsNode n) (sym kept) h) total (subst (λ (n : NodeState). PlanStands n total) (sym kept) stands) in
+            let on : Calm mid (answers_of later) new = rest (subst (λ (n : NodeState). IsNode n) (sym kept) h) total (subst (λ (n : NodeState). PlanStands n total) (sym kept) stands) in
             record { each = (inl refl, on.each); none = on.none; kernel = on.kernel ∙ ap (λ (n : NodeState). n.kernel) kept }
         by (Err (Fault fault)) e kept rest = absurd kept
 
   -- ---- else each write that fails is counted, and a plan is the last that writes
 
-  module _ (effects : TargetsTakeEffect) (bound : FewToCome) (per : ℕ) where
+  module _ (effects : TargetsTakeEffect) (bound : FewBy) (per : ℕ) where
     record Leaves (old : NodeState) (answers : List Answer) (new : NodeState) : Type 0 where
       each : AllByRecursion IsAnswerOrFailed answers
       counted : new.kernel.failures ≡ old.kernel.failures + failed_in answers
@@ -130,47 +140,47 @@ module _ (law : StepsLeave) (weigh : RowsWeigh) (parts : ScaledRowsWeigh) where
         → new.kernel.table ≡ old.kernel.table → Ready new
     ready_again old new ready node settled containers table = (node, (settled, ap (λ n. 2 * n) (live_alike old new containers table) ∙ ready.1.1))
 
-    goes : (answers : List Answer) (old new : NodeState) → Ready old → Run old (map Rebalance answers) new → Leaves old answers new
+    goes : (calls : List Called) (old new : NodeState) → Ready old → Run old (calls_of calls) new → Leaves old (answers_of calls) new
     goes [] old new ready run =
         let failures : new.kernel.failures ≡ old.kernel.failures = ap (λ (n : NodeState). n.kernel.failures) run in
         let writes : new.kernel.writes ≡ old.kernel.writes = ap (λ (n : NodeState). n.kernel.writes) run in
         record { each = tt; counted = omega (arith, failures); few = omega (arith, writes) }
-    goes (answer ∷ later) old new ready (mid, step, run) = by answer step (λ r. goes later mid new r run) where
+    goes ((order, answer) ∷ later) old new ready (mid, step, run) = by answer step (λ r. goes later mid new r run) where
       h : IsNode old
       h = ready.0
 
-      node : (a : Answer) → Rebalances old a mid → IsNode mid
-      node a r = rebalances_node old h law a mid r
+      node : (a : Answer) → Rebalances order old a mid → IsNode mid
+      node a r = rebalances_node order old h law a mid r
 
-      by : (a : Answer) → Rebalances old a mid → (Ready mid → Leaves mid later new) → Leaves old (a ∷ later) new
+      by : (a : Answer) → Rebalances order old a mid → (Ready mid → Leaves mid (answers_of later) new) → Leaves old (a ∷ answers_of later) new
       by (Ok (Plan total)) m rest =
-          let made : PlanWrites old mid = rebalance_makes old h law effects bound (Ok (Plan total)) mid m in
+          let made : PlanWrites order old mid = rebalance_makes order old h law effects bound (Ok (Plan total)) mid m in
           let most : mid.kernel.writes ≤ old.kernel.writes + 2 * live_count old = made.few in
-          after_plan old mid new total later (subst (λ p. mid.kernel.writes ≤ old.kernel.writes + p) ready.1.1 most)
-          (rebalance_counts old h law (Ok (Plan total)) mid m)
-          (calm total later mid new (node (Ok (Plan total)) m) (answered_plans_stand law old total mid h m) run)
+          after_plan old mid new total (answers_of later) (subst (λ p. mid.kernel.writes ≤ old.kernel.writes + p) ready.1.1 most)
+          (rebalance_counts order old h law (Ok (Plan total)) mid m)
+          (calm total later mid new (node (Ok (Plan total)) m) (answered_plans_stand law order old total mid h m) run)
       by (Ok (Short wanted allowed)) l rest =
-          unwritten old mid new (Ok (Short wanted allowed)) later refl (ap (λ (n : NodeState). n.kernel) l.is)
+          unwritten old mid new (Ok (Short wanted allowed)) (answers_of later) refl (ap (λ (n : NodeState). n.kernel) l.is)
           (rest (ready_again old mid ready (node (Ok (Short wanted allowed)) l) (ap (λ (n : NodeState). is_underway n.phase) l.is ∙ ready.1.0)
           (ap (λ (n : NodeState). n.containers) l.is) (ap (λ (n : NodeState). n.kernel.table) l.is))) refl
       by (Err Memory) e rest =
-          unwritten old mid new (Err Memory) later refl (ap (λ (n : NodeState). n.kernel) e.1) (rest (subst (λ (n : NodeState). Ready n) (sym e.1) ready)) refl
+          unwritten old mid new (Err Memory) (answers_of later) refl (ap (λ (n : NodeState). n.kernel) e.1) (rest (subst (λ (n : NodeState). Ready n) (sym e.1) ready)) refl
       by (Err (Fault (Kernel fault))) m rest =
-          let failed : fault ≡ Failed = headline old h law effects weigh parts (Err (Fault (Kernel fault))) mid m in
-          let left : IsBrokenOff old mid = broken_off old h law weigh m.0 fault mid m.1 in
-          let made : mid.kernel.writes ≤ old.kernel.writes + 2 * live_count old + 1 = rebalance_makes old h law effects bound (Err (Fault (Kernel fault))) mid m in
-          after_failure old mid new (Err (Fault (Kernel fault))) later (ap (λ (f : KernelFault). Err (Fault (Kernel f))) failed) refl
+          let failed : fault ≡ Failed = headline order old h law effects weigh parts (Err (Fault (Kernel fault))) mid m in
+          let left : IsBrokenOff order old mid = broken_off order old h law weigh m.0 fault mid m.1 in
+          let made : mid.kernel.writes ≤ old.kernel.writes + 2 * live_count old + 1 = rebalance_makes order old h law effects bound (Err (Fault (Kernel fault))) mid m in
+          after_failure old mid new (Err (Fault (Kernel fault))) (answers_of later) (ap (λ (f : KernelFault). Err (Fault (Kernel f))) failed) refl
           (subst (λ p. mid.kernel.writes ≤ old.kernel.writes + p + 1) ready.1.1 made) left.counted
           (rest (ready_again old mid ready (node (Err (Fault (Kernel fault))) m) (ap is_underway left.phase) left.same left.broken.rest.table))
       by (Err (Fault Busy)) e rest = absurd (false≢true (sym ready.1.0 ∙ e.0))
       by (Err (Fault fault)) e rest = absurd e
 
-  pub retries_end : TargetsTakeEffect → FewToCome → RetriesEnd
-  retries_end effects bound old answers new h settled run =
-      let leaves : Leaves effects bound (2 * live_count old) old answers new = goes effects bound (2 * live_count old) answers old new (h, (settled, refl)) run in
+  pub retries_end : TargetsTakeEffect → FewBy → RetriesEnd
+  retries_end effects bound old calls new h settled run =
+      let leaves : Leaves effects bound (2 * live_count old) old (answers_of calls) new = goes effects bound (2 * live_count old) calls old new (h, (settled, refl)) run in
       record {
         each = leaves.each;
         counted = leaves.counted;
-        ends = λ fewer. one_answers answers (omega (arith, fewer, leaves.counted));
+        ends = λ fewer. one_answers (answers_of calls) (omega (arith, fewer, leaves.counted));
         few = leaves.few;
       }

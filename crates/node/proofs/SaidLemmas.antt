@@ -19,6 +19,7 @@ use Rattle.apply_plan.specs.Holders.{Pairwise}
 use Rattle.machine.specs.Layout.{Layout}
 use Rattle.node.specs.declared.fault.NodeFault.{NodeFault}
 use Rattle.node.specs.declared.fault.NodeFault.TheVariants.{Busy, BadId, IdInUse, TooManyContainers, NoContainer, NotCreated, NotRunnable, BadSignal, NotLive, NotStopped, NoHandover, NoAnswer, NotFree, Config, Demand, Kernel}
+use Rattle.node.specs.declared.order.Order.{Order}
 use Rattle.node.specs.declared.outcome.Outcome.{Outcome}
 use Rattle.node.specs.declared.outcome.Outcome.TheVariants.{Plan, Short}
 use Rattle.node.specs.NodeState.{ContainerState, NodeState}
@@ -62,12 +63,12 @@ module _ (P : Layout → Entries → Type 0) where
   kill_keeps old new id signal (Err (Config fault)) k h = moved old new k.1 h
   kill_keeps old new id signal (Err (Demand fault)) k h = moved old new k.1 h
 
-  begin_keeps : (old new : NodeState) (r : Result Outcome (OrMemory NodeFault)) → Begins old r new → Of old → Of new
-  begin_keeps old new (Ok (Plan total)) b h = moved _ new b.is h
-  begin_keeps old new (Ok (Short wanted allowed)) b h = moved _ new b.is h
-  begin_keeps old new (Err Memory) b h = moved old new b.1 h
-  begin_keeps old new (Err (Fault Busy)) b h = moved old new b.1 h
-  begin_keeps old new (Err (Fault fault)) b h = absurd b
+  begin_keeps : (order : Order) (old new : NodeState) (r : Result Outcome (OrMemory NodeFault)) → Begins order old r new → Of old → Of new
+  begin_keeps order old new (Ok (Plan total)) b h = moved _ new b.is h
+  begin_keeps order old new (Ok (Short wanted allowed)) b h = moved _ new b.is h
+  begin_keeps order old new (Err Memory) b h = moved old new b.1 h
+  begin_keeps order old new (Err (Fault Busy)) b h = moved old new b.1 h
+  begin_keeps order old new (Err (Fault fault)) b h = absurd b
 
   step_keeps : (old new : NodeState) (r : Result Progress NodeFault) → StepsOn old r new → Of old → Of new
   step_keeps old new (Ok More) s h = moved _ new s.is h
@@ -80,21 +81,21 @@ module _ (P : Layout → Entries → Type 0) where
   steps_keep zero old new more h = moved old new more h
   steps_keep (suc count) old new more h = steps_keep count more.0 new more.2 (step_keeps old more.0 (Ok More) more.1 h)
 
-  moves_keep : (old new : NodeState) (total : ℕ) (r : Result (Unit {0}) KernelFault) → Moves old total r new → Of old → Of new
-  moves_keep old new total (Ok v) m h =
+  moves_keep : (order : Order) (old new : NodeState) (total : ℕ) (r : Result (Unit {0}) KernelFault) → Moves order old total r new → Of old → Of new
+  moves_keep order old new total (Ok v) m h =
       step_keeps m.finishes.mid new (Ok Done) m.finishes.ends
-      (steps_keep m.finishes.steps m.mid m.finishes.mid m.finishes.more (begin_keeps old m.mid (Ok (Plan total)) m.begun h))
-  moves_keep old new total (Err fault) m h =
+      (steps_keep m.finishes.steps m.mid m.finishes.mid m.finishes.more (begin_keeps order old m.mid (Ok (Plan total)) m.begun h))
+  moves_keep order old new total (Err fault) m h =
       step_keeps m.finishes.mid new (Err (Kernel fault)) m.finishes.ends
-      (steps_keep m.finishes.steps m.mid m.finishes.mid m.finishes.more (begin_keeps old m.mid (Ok (Plan total)) m.begun h))
+      (steps_keep m.finishes.steps m.mid m.finishes.mid m.finishes.more (begin_keeps order old m.mid (Ok (Plan total)) m.begun h))
 
-  pub rebalance_keeps : (old new : NodeState) (r : Result Outcome (OrMemory NodeFault)) → Rebalances old r new → Of old → Of new
-  rebalance_keeps old new (Ok (Plan total)) b h = moves_keep old new total (Ok tt) b h
-  rebalance_keeps old new (Ok (Short wanted allowed)) b h = moved _ new b.is h
-  rebalance_keeps old new (Err (Fault (Kernel fault))) b h = moves_keep old new b.0 (Err fault) b.1 h
-  rebalance_keeps old new (Err Memory) b h = moved old new b.1 h
-  rebalance_keeps old new (Err (Fault Busy)) b h = moved old new b.1 h
-  rebalance_keeps old new (Err (Fault fault)) b h = absurd b
+  pub rebalance_keeps : (order : Order) (old new : NodeState) (r : Result Outcome (OrMemory NodeFault)) → Rebalances order old r new → Of old → Of new
+  rebalance_keeps order old new (Ok (Plan total)) b h = moves_keep order old new total (Ok tt) b h
+  rebalance_keeps order old new (Ok (Short wanted allowed)) b h = moved _ new b.is h
+  rebalance_keeps order old new (Err (Fault (Kernel fault))) b h = moves_keep order old new b.0 (Err fault) b.1 h
+  rebalance_keeps order old new (Err Memory) b h = moved old new b.1 h
+  rebalance_keeps order old new (Err (Fault Busy)) b h = moved old new b.1 h
+  rebalance_keeps order old new (Err (Fault fault)) b h = absurd b
 
 -- no two containers have one id
 abbrev OtherIds : List ℕ × ContainerState → List ℕ × ContainerState → Type 0
@@ -397,12 +398,12 @@ module _ (done : List Event) (old new : NodeState) where
   event_said (Delete id answer) s h =
       delete_said (done ++ Delete id answer ∷ []) old new id answer s
       (none_more done (Delete id answer) old (λ key. refl) h)
-  event_said (Rebalance answer) s h =
-      rebalance_keeps (SaidOf (done ++ Rebalance answer ∷ [])) old new answer s
-      (none_more done (Rebalance answer) old (λ key. refl) h)
-  event_said (Begin answer) s h =
-      begin_keeps (SaidOf (done ++ Begin answer ∷ [])) old new answer s
-      (none_more done (Begin answer) old (λ key. refl) h)
+  event_said (Rebalance order answer) s h =
+      rebalance_keeps (SaidOf (done ++ Rebalance order answer ∷ [])) order old new answer s
+      (none_more done (Rebalance order answer) old (λ key. refl) h)
+  event_said (Begin order answer) s h =
+      begin_keeps (SaidOf (done ++ Begin order answer ∷ [])) order old new answer s
+      (none_more done (Begin order answer) old (λ key. refl) h)
   event_said (StepOn answer) s h =
       step_keeps (SaidOf (done ++ StepOn answer ∷ [])) old new answer s
       (none_more done (StepOn answer) old (λ key. refl) h)

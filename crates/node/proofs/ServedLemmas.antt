@@ -9,7 +9,7 @@ use Rattle.machine.specs.Layout.{Layout}
 use Rattle.config_json.specs.SectionOf.{Section}
 use Rattle.rows.specs.Scaled.{ScaledRowsWeigh}
 use Rattle.rows.specs.Weighs.{RowsWeigh}
-use Rattle.apply_plan.specs.OneStep.{StepsLeave}
+use Rattle.node.proofs.OrderLemmas.{OrdersLeave}
 use Rattle.apply_plan.specs.Effects.{TargetsTakeEffect}
 use Rattle.demand.specs.declared.Kind.{Kind}
 use Rattle.demand.specs.declared.Kind.TheVariants.{Pinned, Shared}
@@ -67,10 +67,10 @@ has_asked events m k pool e said served = record {
   has = λ live. are_asked m k pool said.said.cpu e.1.demand said.says.asked_so (effective k e) e.1.demand.kind refl (served live);
 }
 
-pub runs_serve_configs : RowsWeigh → StepsLeave → TargetsTakeEffect → ScaledRowsWeigh → RunsServeConfigs
-runs_serve_configs weigh law effects parts first events old total new node none run rebalances =
-    let headline : IsRebalanced old total new = (runs_rebalance law effects weigh parts first events old (Ok (Plan total)) new node run rebalances).headline in
+pub runs_serve_configs : RowsWeigh → OrdersLeave → TargetsTakeEffect → ScaledRowsWeigh → RunsServeConfigs
+runs_serve_configs weigh law effects parts first events order old total new node none run rebalances =
+    let headline : IsRebalanced old total new = (runs_rebalance law effects weigh parts first events order old (Ok (Plan total)) new node run rebalances).headline in
     let said : AllByRecursion (IsSaid events new.machine) new.containers =
-    rebalance_keeps (λ m xs. AllByRecursion (IsSaid events m) xs) old new (Ok (Plan total)) rebalances (containers_are_said first events old none run) in
+    rebalance_keeps (λ m xs. AllByRecursion (IsSaid events m) xs) order old new (Ok (Plan total)) rebalances (containers_are_said first events old none run) in
     all_map2 (IsSaid events new.machine) (IsServed new.kernel new.machine new.pool) (HasAsked events new.machine new.kernel new.pool)
     (has_asked events new.machine new.kernel new.pool) new.containers said headline.served

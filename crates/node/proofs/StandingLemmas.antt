@@ -2,7 +2,7 @@
 use Rattle.std.proofs.Common.{◌≡◌, ℕ, zero, suc, ◌≤◌, true, false, cond, List, [], ◌∷◌, refl, sym, ap, ◌∙◌, subst, sum_by, arith}
 use Rattle.std.proofs.lemmas.Bool.{false≢true, and_from, and_left, and_right}
 use Rattle.std.proofs.lemmas.List.Sums.{sum_by-cons}
-use Rattle.std.specs.Prelude.{filter, map, zip, is_none, Option, Some, None, is_some, Result, Ok, Err}
+use Rattle.std.specs.Prelude.{filter, map, zip, Option, Some, None, Result, Ok, Err}
 use Rattle.std.specs.List.{AllByRecursion, AllZip}
 use Rattle.std.specs.FinSet as set
 use Rattle.cpu_set.specs.Ids.{Ids}
@@ -22,12 +22,11 @@ use Rattle.rows.specs.Scaled.{ScaledRowsWeigh}
 use Rattle.rows.specs.Weighs.{RowsWeigh}
 use Rattle.apply_plan.specs.declared.Progress.{Progress}
 use Rattle.apply_plan.specs.declared.Progress.TheVariants.{More, Done}
-use Rattle.apply_plan.specs.DueLemmas.{holds_its_target, nothing_is_due}
-use Rattle.apply_plan.specs.DueWrite.{must_move, due, written, progress_of, HasTarget, Steps}
-use Rattle.apply_plan.specs.ListLemmas.{none_found}
-use Rattle.apply_plan.specs.OneStep.{StepsLeave}
+use Rattle.apply_plan.specs.DueLemmas.{holds_its_target}
+use Rattle.apply_plan.specs.DueWrite.{must_move, HasTarget}
 use Rattle.node.specs.declared.fault.NodeFault.{NodeFault}
 use Rattle.node.specs.declared.fault.NodeFault.TheVariants.{Busy, Kernel}
+use Rattle.node.specs.declared.order.Order.{Order}
 use Rattle.node.specs.declared.outcome.Outcome.{Outcome}
 use Rattle.node.specs.declared.outcome.Outcome.TheVariants.{Plan, Short}
 use Rattle.node.specs.declared.phase.Phase.TheVariants.{Settled, Underway, Unsettled}
@@ -38,6 +37,7 @@ use Rattle.node.specs.IsNode.{IsNode}
 use Rattle.node.specs.Rows.{as_cpus, requested_by, planned}
 use Rattle.node.specs.Best.{AreOwn, is_asking, asking, wanted_by, CouldHave, distance, total_distance, moved_by, moved, IsBest}
 use Rattle.node.specs.Entries.{pool_of, Target, entry_of, plan_pool, plan_targets, plan_entries, opened}
+use Rattle.node.specs.Orders.{StepsBy}
 use Rattle.node.specs.Rebalance.{Begun, StepsOn, StepsMore, Moves, Finishes, Rebalances}
 use Rattle.node.specs.Standing.{requested_sets, HasPool, PlanStands, KeepsPlan, StandingPlansAreKept, AnsweredPlansStand, SecondsKeepPlans}
 use Rattle.node.proofs.ListLemmas.{all_of, all_of_map, of_all_map, all_map, zip_map}
@@ -45,7 +45,8 @@ use Rattle.node.proofs.AskingLemmas.{short_stands}
 use Rattle.node.proofs.DistanceLemmas.{there_in_range, online_there}
 use Rattle.node.proofs.FinishLemmas.{Settles, settles}
 use Rattle.node.proofs.HeadlineLemmas.{begun_node, rebalances_node}
-use Rattle.node.proofs.PlanLemmas.{IsDealt, over_targets, opened_ongoing}
+use Rattle.node.proofs.OrderLemmas.{OrdersLeave, it_rests}
+use Rattle.node.proofs.PlanLemmas.{IsDealt, over_targets, opened_ongoing, plan_placed}
 use Rattle.node.proofs.SizeLemmas.{same_size, none_left_of}
 use Rattle.node.proofs.StepLemmas.{its_steps}
 
@@ -111,7 +112,7 @@ module _ (n : NodeState) (h : IsNode n) where
         let none : moved n (requested_sets n) ≡ 0 = none_moved n.kernel n.machine (asking n) in
         unmoved (asking n) sets best.could.own held.could.own (omega (arith, fewest, none))
 
--- ---- where each requests what it gets, nothing is due
+-- ---- where each requests what it gets, none must move
 
 module _ (n : NodeState) (h : IsNode n) (could : CouldHave n (requested_sets n)) (pools : AllByRecursion (HasPool n) n.containers) where
   abbrev k : KernelState
@@ -145,29 +146,19 @@ module _ (n : NodeState) (h : IsNode n) (could : CouldHave n (requested_sets n))
       (λ e later s ss ts d on. taken e later s ss ts d on)
       n.containers h.asked (requested_sets n) could.own refl pools
 
-  none_moves : AllByRecursion (λ e. must_move k e ≡ false) (plan_entries n (requested_sets n))
+  pub none_moves : AllByRecursion (λ e. must_move k e ≡ false) (plan_entries n (requested_sets n))
   none_moves =
       all_of_map entry_of (λ e. must_move k e ≡ false) (plan_targets n (requested_sets n))
       (all_map IsKept (λ p. must_move k (entry_of p) ≡ false) (λ p is. holds_its_target k (entry_of p) ((is_same_decides _ _).1 is))
       (plan_targets n (requested_sets n)) are_kept)
 
-  pub none_due : due (opened n (requested_sets n)).targets k ≡ None
-  none_due =
-      nothing_is_due k n.machine.reserved (plan_entries n (requested_sets n)) (opened_ongoing n h (requested_sets n) could).handover.some
-      (ap is_none (none_found (must_move k) (plan_entries n (requested_sets n)) none_moves))
-
 -- ---- and the first step ends the hand-over
 
-module _ (o : Ongoing) (n : NodeState) (was : n.ongoing ≡ Some o) (none : due o.targets n.kernel ≡ None) where
-  still : (answer : Progress) (new : KernelState) → Steps o.targets n.kernel (Ok answer) new → new ≡ n.kernel
-  still answer new s = s.0 ∙ ap (written n.kernel) none
-
-  answers_done : (answer : Progress) (new : KernelState) → Steps o.targets n.kernel (Ok answer) new → answer ≡ Done
-  answers_done answer new s = s.1 ∙ ap (λ x. progress_of (due o.targets x)) (still answer new s) ∙ ap progress_of none
-
+module _ (o : Ongoing) (n : NodeState) (was : n.ongoing ≡ Some o)
+    (rests : (r : Result Progress KernelFault) (new : KernelState) → StepsBy o.order n.machine o n.kernel r new → (r ≡ Ok Done) × (new ≡ n.kernel)) where
   no_more : (mid : NodeState) → StepsOn n (Ok More) mid → ⊥
   no_more mid s =
-      let is : More ≡ Done = answers_done More mid.kernel (its_steps n o was mid (Ok More) n.phase n.ongoing s) in let no : ⊥ = cc is in no
+      let no : ⊥ = cc (rests (Ok More) mid.kernel (its_steps n o was mid (Ok More) n.phase n.ongoing s)).0 in no
 
   abbrev settled : NodeState
   settled = record n { phase = Settled; ongoing = None }
@@ -176,12 +167,11 @@ module _ (o : Ongoing) (n : NodeState) (was : n.ongoing ≡ Some o) (none : due 
   ends_here new s =
       s.is
       ∙ ap (λ (x : KernelState). record n { kernel = x; phase = Settled; ongoing = None })
-      (still Done new.kernel (its_steps n o was new (Ok Done) Settled None s))
+      (rests (Ok Done) new.kernel (its_steps n o was new (Ok Done) Settled None s)).1
 
   none_fails : (fault : KernelFault) (new : NodeState) → StepsOn n (Err (Kernel fault)) new → ⊥
   none_fails fault new s =
-      let steps : Steps o.targets n.kernel (Err fault) new.kernel = its_steps n o was new (Err fault) Unsettled None s in
-      false≢true (sym (ap is_some none) ∙ steps.2)
+      let no : ⊥ = cc (rests (Err fault) new.kernel (its_steps n o was new (Err fault) Unsettled None s)).0 in no
 
   first_ends : (count : ℕ) (mid new : NodeState) → StepsMore count n mid → StepsOn mid (Ok Done) new → new ≡ settled
   first_ends zero mid new more ends = ends_here new (subst (λ (x : NodeState). StepsOn x (Ok Done) new) more ends)
@@ -191,29 +181,33 @@ module _ (o : Ongoing) (n : NodeState) (was : n.ongoing ≡ Some o) (none : due 
   first_holds zero fault mid new more ends = none_fails fault new (subst (λ (x : NodeState). StepsOn x (Err (Kernel fault)) new) more ends)
   first_holds (suc count) fault mid new more ends = no_more more.0 more.1
 
-module _ (old : NodeState) (h : IsNode old) (total : ℕ) (stands : PlanStands old total) where
+module _ (order : Order) (old : NodeState) (h : IsNode old) (total : ℕ) (stands : PlanStands old total) where
   -- the hand-over to the plan that stands
   abbrev begun : Option Certificate → NodeState
-  begun last = record old { pool = plan_pool old (requested_sets old); phase = Underway; ongoing = Some (opened old (requested_sets old)); last = last }
+  begun last = record old { pool = plan_pool old (requested_sets old); phase = Underway; ongoing = Some (opened order old (requested_sets old)); last = last }
 
-  abbrev sets_of : {found : ℕ} {mid : NodeState} → Begun old found mid → List Ids
+  abbrev sets_of : {found : ℕ} {mid : NodeState} → Begun order old found mid → List Ids
   sets_of b = as_cpus old.machine b.plan
 
-  its_plan : (found : ℕ) (mid : NodeState) (b : Begun old found mid) → sets_of b ≡ requested_sets old
+  its_plan : (found : ℕ) (mid : NodeState) (b : Begun order old found mid) → sets_of b ≡ requested_sets old
   its_plan found mid b = same_plan old h total found (sets_of b) stands.best b.best
 
-  begun_as : (found : ℕ) (mid : NodeState) (b : Begun old found mid) → mid ≡ begun (Some (planned old b.plan b.prices b.whole))
+  begun_as : (found : ℕ) (mid : NodeState) (b : Begun order old found mid) → mid ≡ begun (Some (planned old b.plan b.prices b.whole))
   begun_as found mid b =
       b.is
       ∙ ap (λ (ss : List Ids). record old {
         pool = plan_pool old ss;
         phase = Underway;
-        ongoing = Some (opened old ss);
+        ongoing = Some (opened order old ss);
         last = Some (planned old b.plan b.prices b.whole);
       }) (its_plan found mid b)
 
-  none_is_due : due (opened old (requested_sets old)).targets old.kernel ≡ None
-  none_is_due = none_due old h stands.best.could stands.pool
+  rests_then : (r : Result Progress KernelFault) (new : KernelState) → StepsBy order old.machine (opened order old (requested_sets old)) old.kernel r new
+      → (r ≡ Ok Done) × (new ≡ old.kernel)
+  rests_then r new s =
+      let ongoing = opened_ongoing old h (requested_sets old) stands.best.could order in
+      it_rests old.machine (opened order old (requested_sets old)) old.kernel ongoing.handover (none_moves old h stands.best.could stands.pool) h.layout.sound ongoing.ranged
+      (plan_placed old h (requested_sets old) stands.best.could) order r new s
 
   -- the certificate that is left is its
   as_left : (last : Option Certificate) (new : NodeState) → new ≡ record (begun last) { phase = Settled; ongoing = None }
@@ -223,23 +217,23 @@ module _ (old : NodeState) (h : IsNode old) (total : ℕ) (stands : PlanStands o
       ∙ ap (λ (c : Option Certificate). record old { pool = plan_pool old (requested_sets old); phase = Settled; ongoing = None; last = c })
       (sym (ap (λ (n : NodeState). n.last) is))
 
-  plan_kept : (found : ℕ) (new : NodeState) (m : Moves old found (Ok tt) new) → KeepsPlan old total (Ok (Plan found)) new
+  plan_kept : (found : ℕ) (new : NodeState) (m : Moves order old found (Ok tt) new) → KeepsPlan old total (Ok (Plan found)) new
   plan_kept found new m =
       let b = m.begun in
       let last : Option Certificate = Some (planned old b.plan b.prices b.whole) in
       let f : Finishes (begun last) (Ok tt) new = subst (λ (n : NodeState). Finishes n (Ok tt) new) (begun_as found m.mid b) m.finishes in (
         same_total old h total found (sets_of b) stands.best b.best,
-        as_left last new (first_ends (opened old (requested_sets old)) (begun last) refl none_is_due f.steps f.mid new f.more f.ends),
+        as_left last new (first_ends (opened order old (requested_sets old)) (begun last) refl rests_then f.steps f.mid new f.more f.ends),
       )
 
-  none_breaks : (found : ℕ) (fault : KernelFault) (new : NodeState) → Moves old found (Err fault) new → ⊥
+  none_breaks : (found : ℕ) (fault : KernelFault) (new : NodeState) → Moves order old found (Err fault) new → ⊥
   none_breaks found fault new m =
       let b = m.begun in
       let last : Option Certificate = Some (planned old b.plan b.prices b.whole) in
       let f : Finishes (begun last) (Err fault) new = subst (λ (n : NodeState). Finishes n (Err fault) new) (begun_as found m.mid b) m.finishes in
-      first_holds (opened old (requested_sets old)) (begun last) refl none_is_due f.steps fault f.mid new f.more f.ends
+      first_holds (opened order old (requested_sets old)) (begun last) refl rests_then f.steps fault f.mid new f.more f.ends
 
-  pub plan_is_kept : RowsWeigh → ScaledRowsWeigh → (answer : Result Outcome (OrMemory NodeFault)) (new : NodeState) → Rebalances old answer new
+  pub plan_is_kept : RowsWeigh → ScaledRowsWeigh → (answer : Result Outcome (OrMemory NodeFault)) (new : NodeState) → Rebalances order old answer new
       → KeepsPlan old total answer new
   plan_is_kept weigh parts (Ok (Plan found)) new m = plan_kept found new m
   plan_is_kept weigh parts (Ok (Short wanted allowed)) new l =
@@ -299,8 +293,8 @@ best_stands old new containers machine table online total sets requested best = 
   back others could = could_alike new old (sym containers) (sym machine) (sym table) (sym online) others could
 
 -- once a hand-over ended, each requests what the plan gives it
-module _ (old : NodeState) (h : IsNode old) (sets : List Ids) (could : CouldHave old sets) (last : Option Certificate) (new : NodeState)
-    (s : Settles (opened old sets) (record old { pool = plan_pool old sets; phase = Underway; ongoing = Some (opened old sets); last = last }) new) where
+module _ (order : Order) (old : NodeState) (h : IsNode old) (sets : List Ids) (could : CouldHave old sets) (last : Option Certificate) (new : NodeState)
+    (s : Settles (opened order old sets) (record old { pool = plan_pool old sets; phase = Underway; ongoing = Some (opened order old sets); last = last }) new) where
   still_live : (c : ContainerState) → is_live new.kernel c ≡ is_live old.kernel c
   still_live c = ap (λ t. is_live (record new.kernel { table = t }) c) s.table
 
@@ -366,20 +360,20 @@ module _ (old : NodeState) (h : IsNode old) (sets : List Ids) (could : CouldHave
         (all_map HasRest (HasPool new) (λ e has live kind. has live kind ∙ sym pool_is) old.containers requests.rest);
   }
 
-module _ (law : StepsLeave) where
+module _ (law : OrdersLeave) where
   pub answered_plans_stand : AnsweredPlansStand
-  answered_plans_stand old total new h m =
+  answered_plans_stand order old total new h m =
       let b = m.begun in
       let sets : List Ids = as_cpus old.machine b.plan in
       let last : Option Certificate = Some (planned old b.plan b.prices b.whole) in
-      plan_stands old h sets b.best.could last new
-      (settles law (opened old sets) (record old { pool = plan_pool old sets; phase = Underway; ongoing = Some (opened old sets); last = last }) new
-      (subst (λ (n : NodeState). IsNode n) b.is (begun_node old h total m.mid b)) refl (subst (λ (n : NodeState). Finishes n (Ok tt) new) b.is m.finishes))
+      plan_stands order old h sets b.best.could last new
+      (settles law (opened order old sets) (record old { pool = plan_pool old sets; phase = Underway; ongoing = Some (opened order old sets); last = last }) new
+      (subst (λ (n : NodeState). IsNode n) b.is (begun_node order old h total m.mid b)) refl (subst (λ (n : NodeState). Finishes n (Ok tt) new) b.is m.finishes))
       total b.best
 
   pub standing_plans_are_kept : RowsWeigh → ScaledRowsWeigh → StandingPlansAreKept
-  standing_plans_are_kept weigh parts old total answer new h stands r = plan_is_kept old h total stands weigh parts answer new r
+  standing_plans_are_kept weigh parts order old total answer new h stands r = plan_is_kept order old h total stands weigh parts answer new r
 
   pub seconds_keep_plans : RowsWeigh → ScaledRowsWeigh → SecondsKeepPlans
-  seconds_keep_plans weigh parts first total old answer new h m r =
-      plan_is_kept old (rebalances_node first h law (Ok (Plan total)) old m) total (answered_plans_stand first total old h m) weigh parts answer new r
+  seconds_keep_plans weigh parts before after first total old answer new h m r =
+      plan_is_kept after old (rebalances_node before first h law (Ok (Plan total)) old m) total (answered_plans_stand before first total old h m) weigh parts answer new r

@@ -2,50 +2,41 @@
 use Rattle.std.proofs.Common.{◌≡◌, inl, inr, ◌<◌, ◌≤◌, ◌+◌, ◌*◌, length, false, List, Option, Some, None, refl, sym, ap, ◌∙◌, subst, arith}
 use Rattle.std.proofs.lemmas.Option.{none-some, same_Some}
 use Rattle.std.specs.Prelude.{is_none, map, Result, Ok, Err, OnErr}
-use Rattle.std.specs.List.{AllByRecursion, AllZip}
-use Rattle.cpu_set.specs.Ids.{Ids, is_empty}
+use Rattle.std.specs.List.{AllByRecursion}
 use Rattle.cpuset_tree.specs.declared.Group.{Group}
 use Rattle.cpuset_tree.specs.Groups.{same_group, is_root_entry, cpus_in, mems_in}
 use Rattle.kernel_model.specs.declared.KernelFault.{KernelFault}
 use Rattle.kernel_model.specs.KernelState.{KernelState}
-use Rattle.apply_plan.specs.declared.Entry.{Entry}
 use Rattle.apply_plan.specs.declared.Progress.{Progress}
 use Rattle.apply_plan.specs.declared.Progress.TheVariants.{More, Done}
 use Rattle.apply_plan.specs.Holders.{IsSafe}
-use Rattle.apply_plan.specs.Kept.{kept}
-use Rattle.apply_plan.specs.KeptLemmas.{kept_target, kept_again}
-use Rattle.apply_plan.specs.Targets.{Targets, holders_of}
+use Rattle.apply_plan.specs.Targets.{holders_of}
 use Rattle.apply_plan.specs.Targets as plan
-use Rattle.apply_plan.specs.DueWrite.{Steps, writes_to_come, HaveTargets, IsBetween, made_by_step}
+use Rattle.apply_plan.specs.DueWrite.{HaveTargets}
 use Rattle.apply_plan.specs.Leaves.{KeepsRest}
 use Rattle.apply_plan.specs.Runs.{IsOpen}
-use Rattle.apply_plan.specs.OneStep.{StepLeaves, StepsLeave}
+use Rattle.apply_plan.specs.Squeezes.{SqueezesOnlyStuck}
+use Rattle.machine.specs.Layout.{Layout}
 use Rattle.node.specs.declared.fault.NodeFault.{NodeFault}
 use Rattle.node.specs.declared.fault.NodeFault.TheVariants.{Busy, BadId, IdInUse, TooManyContainers, NoContainer, NotCreated, NotRunnable, BadSignal, NotLive, NotStopped, NoHandover, NoAnswer, NotFree, Config, Demand, Kernel}
+use Rattle.node.specs.declared.order.Order.{Order}
+use Rattle.node.specs.declared.order.Order.TheVariants.{Directly}
 use Rattle.node.specs.declared.phase.Phase.{Phase}
 use Rattle.node.specs.declared.phase.Phase.TheVariants.{Settled, Unsettled}
 use Rattle.node.specs.NodeState.{Ongoing, NodeState, is_underway}
 use Rattle.node.specs.Owners.{Owner, owners_of}
-use Rattle.node.specs.Ongoing.{AreOf, IsSince, IsOngoing, Stands, IsBroken}
+use Rattle.node.specs.Ongoing.{AreOf, AreSince, IsOngoing, Stands, IsBroken}
+use Rattle.node.specs.LeastCores.{least_cores}
+use Rattle.node.specs.Orders.{directed_of, StepsBy, left_of, FallsBy, made_by}
 use Rattle.node.specs.IsNode.{IsHome, IsShallow, IsPlaced, IsFirst, Holds, IsNode}
 use Rattle.node.specs.Leaves.{rise_of}
 use Rattle.node.specs.Rebalance.{Stepped, StepsOn}
-use Rattle.node.proofs.ListLemmas.{all_of, all_map, all_map2, zip_map}
+use Rattle.node.proofs.ListLemmas.{all_map}
+use Rattle.node.proofs.OrderLemmas.{StepLeft, OrdersLeave}
 use Rattle.node.proofs.HoldsLemmas.{same_owned}
 use Rattle.node.proofs.OngoingLemmas.{of_entries, entries_safe, owners_safe, same_of, none_open}
 use Rattle.node.proofs.LaunchLemmas.{Stays, child_differs, is_there}
 use Rattle.node.proofs.NodeLemmas.{kernel_node}
-
--- what a group requests since the hand-over began, where a step leaves it between that and its target
-module _ (old new : KernelState) (reserved : Ids) (some : is_empty reserved ≡ false) (e : Entry) (found : Ids) (target : is_empty e.target ≡ false) where
-  since_on : IsBetween reserved old new e → IsSince old reserved e found → IsSince new reserved e found
-  since_on (inl x) (inl y) = inl (x ∙ y)
-  since_on (inl x) (inr (inl y)) = inr (inl (x ∙ y))
-  since_on (inl x) (inr (inr y)) = inr (inr (x ∙ y))
-  since_on (inr (inl x)) (inl y) = inr (inl (x ∙ ap (kept reserved e.target) y))
-  since_on (inr (inl x)) (inr (inl y)) = inr (inl (x ∙ ap (kept reserved e.target) y ∙ kept_again reserved e.target some found))
-  since_on (inr (inl x)) (inr (inr y)) = inr (inr (x ∙ ap (kept reserved e.target) y ∙ kept_target reserved e.target target))
-  since_on (inr (inr x)) s = inr (inr x)
 
 module _ (parent : Group) (owners : List Owner) where
   -- what steps leave of the containers, of the hand-over and of the rest of the kernel
@@ -66,8 +57,8 @@ module _ (parent : Group) (owners : List Owner) where
         (all_map (λ w. IsFirst k.table w.holder) (λ w. w.holder.pid < k.table.next_pid) (λ w f. f.given) owners h.first);
   }
 
-  module _ (o : Ongoing) (old new : KernelState) (h : Holds old parent owners) (g : IsOngoing old owners o) (r : Result Progress KernelFault)
-      (leaves : StepLeaves o.targets old r new) where
+  module _ (m : Layout) (o : Ongoing) (old new : KernelState) (h : Holds old parent owners) (g : IsOngoing old owners o) (r : Result Progress KernelFault)
+      (leaves : StepLeft o.order m o old r new) where
     rest : KeepsRest o.targets old new
     rest = leaves.rest
 
@@ -115,15 +106,8 @@ module _ (parent : Group) (owners : List Owner) where
         (subst (λ s. IsSafe new s (holders_of o.targets.entries)) reserve
         (leaves.safe (subst (λ s. IsSafe old s (holders_of o.targets.entries)) (sym g.reserved) (entries_safe old old.reserved o.targets.entries owners g.of h.safe))))
 
-    since : AllZip (IsSince new new.reserved) o.targets.entries o.requested_at_begin
-    since =
-        subst (λ s. AllZip (IsSince new s) o.targets.entries o.requested_at_begin) reserve
-        (zip_map (λ e. (is_empty e.target ≡ false) × IsBetween o.targets.reserved old new e) (IsSince old o.targets.reserved) (IsSince new o.targets.reserved)
-        (λ e found p s. since_on old new o.targets.reserved g.handover.reserve e found p.0 p.1 s) o.targets.entries o.requested_at_begin
-        (all_map2 (λ e. is_empty e.target ≡ false) (IsBetween o.targets.reserved old new) (λ e. (is_empty e.target ≡ false) × IsBetween o.targets.reserved old new e)
-        (λ e t b. (t, b)) o.targets.entries g.handover.some
-        (leaves.between old (all_of (IsBetween o.targets.reserved old old) (λ e. inl refl) o.targets.entries)))
-        (subst (λ s. AllZip (IsSince old s) o.targets.entries o.requested_at_begin) (sym g.reserved) g.since))
+    since : AreSince o.order new o
+    since = leaves.since g.reserved g.since
 
     pub moved : Moved o old new
     moved = record {
@@ -140,24 +124,29 @@ module _ (parent : Group) (owners : List Owner) where
         };
         machine = leaves.kernel.machine;
       };
-      ongoing = record { handover = g.handover; reserved = reserve; of = of; since = since };
+      ongoing = record { handover = g.handover; reserved = reserve; of = of; ranged = g.ranged; since = since };
       rest = rest;
     }
 
 -- what a step is of the hand-over that is open
 pub its_steps : (old : NodeState) (o : Ongoing) → old.ongoing ≡ Some o → (new : NodeState) (r : Result Progress KernelFault) (phase : Phase) (ongoing : Option Ongoing)
-    → Stepped old r phase ongoing new → Steps o.targets old.kernel r new.kernel
-its_steps old o was new r phase ongoing s = subst (λ (x : Ongoing). Steps x.targets old.kernel r new.kernel) (same_Some s.handover o (sym s.was ∙ was)) s.steps
+    → Stepped old r phase ongoing new → StepsBy o.order old.machine o old.kernel r new.kernel
+its_steps old o was new r phase ongoing s = subst (λ (x : Ongoing). StepsBy x.order old.machine x old.kernel r new.kernel) (same_Some s.handover o (sym s.was ∙ was)) s.steps
+
+-- the same of what it answered
+pub answered : (order : Order) (m : Layout) (o : Ongoing) (old new : KernelState) (p q : Progress) → p ≡ q → StepsBy order m o old (Ok p) new
+    → StepsBy order m o old (Ok q) new
+answered order m o old new p q is s = subst (λ (x : Progress). StepsBy order m o old (Ok x) new) is s
 
 -- how many writes are to come of the hand-over that is open, and of none where none is
-pub few_to_come : (n now : NodeState) → n ≡ now → (o : Ongoing) → n.ongoing ≡ Some o → writes_to_come o.targets n.kernel ≤ 2 * length o.targets.entries
-    → (x : Ongoing) → now.ongoing ≡ Some x → writes_to_come x.targets now.kernel ≤ 2 * length x.targets.entries
+pub few_to_come : (n now : NodeState) → n ≡ now → (o : Ongoing) → n.ongoing ≡ Some o → left_of o n.kernel ≤ 2 * length o.targets.entries
+    → (x : Ongoing) → now.ongoing ≡ Some x → left_of x now.kernel ≤ 2 * length x.targets.entries
 few_to_come n now is o was few x now_is =
-    subst (λ (m : NodeState). writes_to_come x.targets m.kernel ≤ 2 * length x.targets.entries) is
-    (subst (λ (y : Ongoing). writes_to_come y.targets n.kernel ≤ 2 * length y.targets.entries) (same_Some o x (sym was ∙ ap (λ (m : NodeState). m.ongoing) is ∙ now_is)) few)
+    subst (λ (m : NodeState). left_of x m.kernel ≤ 2 * length x.targets.entries) is
+    (subst (λ (y : Ongoing). left_of y n.kernel ≤ 2 * length y.targets.entries) (same_Some o x (sym was ∙ ap (λ (m : NodeState). m.ongoing) is ∙ now_is)) few)
 
 -- a node whose hand-over is open
-module _ (law : StepsLeave) (n : NodeState) (h : IsNode n) (o : Ongoing) (was : n.ongoing ≡ Some o) where
+module _ (law : OrdersLeave) (n : NodeState) (h : IsNode n) (o : Ongoing) (was : n.ongoing ≡ Some o) where
   abbrev Owners : List Owner
   Owners = owners_of n.containers
 
@@ -167,12 +156,12 @@ module _ (law : StepsLeave) (n : NodeState) (h : IsNode n) (o : Ongoing) (was : 
   pub open_now : IsOpen o.targets n.kernel
   open_now = is_open n.parent Owners n.kernel h.holds o stands.1
 
-  module _ (new : KernelState) (r : Result Progress KernelFault) (s : Steps o.targets n.kernel r new) where
-    pub leaves : StepLeaves o.targets n.kernel r new
-    leaves = law o.targets n.kernel r new open_now s
+  module _ (new : KernelState) (r : Result Progress KernelFault) (s : StepsBy o.order n.machine o n.kernel r new) where
+    pub leaves : StepLeft o.order n.machine o n.kernel r new
+    leaves = law o.order n.machine o n.kernel r new h.layout.sound stands.1.ranged open_now s
 
     pub moved_on : Moved n.parent Owners o n.kernel new
-    moved_on = moved n.parent Owners o n.kernel new h.holds stands.1 r leaves
+    moved_on = moved n.parent Owners n.machine o n.kernel new h.holds stands.1 r leaves
 
     -- a step after which more are to come, and one that ends the hand-over
     pub more_node : IsNode (record n { kernel = new })
@@ -193,19 +182,19 @@ module _ (law : StepsLeave) (n : NodeState) (h : IsNode n) (o : Ongoing) (was : 
     broken = record { since = moved_on.ongoing.since; rest = moved_on.rest }
 
     -- the same of the node as the program keeps it
-    pub kept_open : (t : Targets) → t ≡ o.targets → IsNode (record n { kernel = new; ongoing = Some (record o { targets = t }) })
-    kept_open t same = subst (λ (x : Option Ongoing). IsNode (record n { kernel = new; ongoing = x })) (was ∙ ap (λ (x : Targets). Some (record o { targets = x })) (sym same)) more_node
+    pub kept_open : (x : Ongoing) → x ≡ o → IsNode (record n { kernel = new; ongoing = Some x })
+    kept_open x same = subst (λ (y : Option Ongoing). IsNode (record n { kernel = new; ongoing = y })) (was ∙ ap (λ (y : Ongoing). Some y) (sym same)) more_node
 
     pub closed : (phase : Phase) → is_underway phase ≡ false → (x : Option Ongoing) → x ≡ None → IsNode (record n { kernel = new; phase = phase; ongoing = x })
     closed phase settled x none = subst (λ (y : Option Ongoing). IsNode (record n { kernel = new; phase = phase; ongoing = y })) (sym none) (ended_node phase settled)
 
     module _ (now : NodeState) (is : n ≡ now) where
-      pub went_on : (t : Targets) → t ≡ o.targets → Stepped now r now.phase now.ongoing (record n { kernel = new; ongoing = Some (record o { targets = t }) })
-      went_on t same = subst (λ (m : NodeState). Stepped m r m.phase m.ongoing (record n { kernel = new; ongoing = Some (record o { targets = t }) })) is (record {
+      pub went_on : (x : Ongoing) → x ≡ o → Stepped now r now.phase now.ongoing (record n { kernel = new; ongoing = Some x })
+      went_on x same = subst (λ (m : NodeState). Stepped m r m.phase m.ongoing (record n { kernel = new; ongoing = Some x })) is (record {
         handover = o;
         was = was;
         steps = s;
-        is = ap (λ (x : Option Ongoing). record n { kernel = new; ongoing = x }) (ap (λ (x : Targets). Some (record o { targets = x })) same ∙ sym was);
+        is = ap (λ (y : Option Ongoing). record n { kernel = new; ongoing = y }) (ap (λ (y : Ongoing). Some y) same ∙ sym was);
       })
 
       pub came_to_end : (phase : Phase) (x : Option Ongoing) → x ≡ None → Stepped now r phase None (record n { kernel = new; phase = phase; ongoing = x })
@@ -244,23 +233,32 @@ module _ (old : NodeState) (P : Result Progress NodeFault → NodeState → Type
 
 -- what a step says of the hand-over that was open
 pub record Says (old : NodeState) (o : Ongoing) (r : Result Progress NodeFault) (new : NodeState) : Type 0 where
-  pub falls : r ≡ Ok More → writes_to_come o.targets old.kernel ≡ writes_to_come o.targets new.kernel + 1
+  pub falls : r ≡ Ok More → FallsBy o.order o.targets old.kernel new.kernel
   pub done : r ≡ Ok Done → HaveTargets new.kernel o.targets.entries
   pub broken : OnErr r (IsBroken o old.kernel new.kernel)
-  pub made : new.kernel.writes ≡ old.kernel.writes + made_by_step o.targets old.kernel
+  pub made : new.kernel.writes ≡ old.kernel.writes + made_by o.order old.machine o old.kernel
+  pub squeezes : o.order ≡ Directly → SqueezesOnlyStuck (directed_of o) (least_cores old.machine) old.kernel new.kernel
 
-module _ (law : StepsLeave) (old : NodeState) (h : IsNode old) where
+module _ (law : OrdersLeave) (old : NodeState) (h : IsNode old) where
   -- where none was open, nothing is said
   pub says : (o : Ongoing) → old.ongoing ≡ Some o → (r : Result Progress NodeFault) (new : NodeState) → StepsOn old r new → Says old o r new
   says o was =
       by_answer old (Says old o)
-      (λ new s. record { falls = λ _. (leaves law old h o was new.kernel (Ok More) (its_steps old o was new (Ok More) old.phase old.ongoing s)).falls refl; done = λ e. absurd (let x : ⊥ = cc e in x); broken = tt; made = (leaves law old h o was new.kernel (Ok More) (its_steps old o was new (Ok More) old.phase old.ongoing s)).made })
-      (λ new s. record { falls = λ e. absurd (let x : ⊥ = cc e in x); done = λ _. (leaves law old h o was new.kernel (Ok Done) (its_steps old o was new (Ok Done) Settled None s)).done refl; broken = tt; made = (leaves law old h o was new.kernel (Ok Done) (its_steps old o was new (Ok Done) Settled None s)).made })
-      (λ fault new s. record {
+      (λ new s.
+      let left = leaves law old h o was new.kernel (Ok More) (its_steps old o was new (Ok More) old.phase old.ongoing s) in
+      record { falls = λ _. left.falls refl; done = λ e. absurd (let x : ⊥ = cc e in x); broken = tt; made = left.made; squeezes = left.squeezes })
+      (λ new s.
+      let left = leaves law old h o was new.kernel (Ok Done) (its_steps old o was new (Ok Done) Settled None s) in
+      record { falls = λ e. absurd (let x : ⊥ = cc e in x); done = λ _. left.done refl; broken = tt; made = left.made; squeezes = left.squeezes })
+      (λ fault new s.
+      let steps = its_steps old o was new (Err fault) Unsettled None s in
+      let left = leaves law old h o was new.kernel (Err fault) steps in
+      record {
         falls = λ e. absurd (let x : ⊥ = cc e in x);
         done = λ e. absurd (let x : ⊥ = cc e in x);
-        broken = broken law old h o was new.kernel (Err fault) (its_steps old o was new (Err fault) Unsettled None s);
-        made = (leaves law old h o was new.kernel (Err fault) (its_steps old o was new (Err fault) Unsettled None s)).made;
+        broken = broken law old h o was new.kernel (Err fault) steps;
+        made = left.made;
+        squeezes = left.squeezes;
       })
       (λ new settled same. absurd (none-some o (sym (none_open old.kernel (owners_of old.containers) (is_underway old.phase) settled old.ongoing h.stands) ∙ was)))
 

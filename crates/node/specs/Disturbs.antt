@@ -9,6 +9,7 @@ use Rattle.kernel_model.specs.declared.KernelFault.{KernelFault}
 use Rattle.kernel_model.specs.KernelState.{KernelState}
 use Rattle.apply_plan.specs.declared.scan.Write.{Write}
 use Rattle.apply_plan.specs.DueWrite.{due}
+use Rattle.node.specs.declared.order.Order.TheVariants.{InTurn}
 use Rattle.node.specs.NodeState.{NodeState}
 use Rattle.node.specs.IsNode.{IsNode}
 use Rattle.node.specs.Rows.{as_cpus, requested_by}
@@ -31,8 +32,8 @@ writes_of_steps zero old new more later = later
 writes_of_steps (suc count) old new more later =
     before (due more.1.handover.targets old.kernel) (writes_of_steps count more.0 new more.2 later)
 
--- those of a hand-over to a plan, from `begin` on, which asks for none
-abbrev pub writes_of_moves : (old : NodeState) (total : ℕ) (r : Result (Unit {0}) KernelFault) (new : NodeState) → Moves old total r new → List Write
+-- those of a hand-over to a plan in turn, from `begin` on, which asks for none
+abbrev pub writes_of_moves : (old : NodeState) (total : ℕ) (r : Result (Unit {0}) KernelFault) (new : NodeState) → Moves InTurn old total r new → List Write
 writes_of_moves old total r new m =
     writes_of_steps m.finishes.steps m.mid m.finishes.mid m.finishes.more (last_write m.finishes.mid r new m.finishes.ends)
 
@@ -60,5 +61,5 @@ pub record WritesLittle (old : NodeState) (sets : List Ids) (writes : List Write
 -- a rebalance to a plan writes so little, whether it comes to its end or a write fails
 abbrev pub RebalancesWriteLittle : Type 0
 RebalancesWriteLittle =
-    (old : NodeState) (total : ℕ) (r : Result (Unit {0}) KernelFault) (new : NodeState) → IsNode old → (m : Moves old total r new)
+    (old : NodeState) (total : ℕ) (r : Result (Unit {0}) KernelFault) (new : NodeState) → IsNode old → (m : Moves InTurn old total r new)
     → WritesLittle old (as_cpus old.machine m.begun.plan) (writes_of_moves old total r new m) new

@@ -3,10 +3,10 @@ use Rattle.std.specs.Prelude.{◌≡◌, ℕ, ◌+◌, ◌*◌, ◌≤◌, List,
 use Rattle.std.specs.List.{AllByRecursion}
 use Rattle.apply_plan.specs.declared.Progress.{Progress}
 use Rattle.apply_plan.specs.declared.Progress.TheVariants.{More}
-use Rattle.apply_plan.specs.DueWrite.{writes_to_come}
 use Rattle.node.specs.declared.fault.NodeFault.{NodeFault}
 use Rattle.node.specs.NodeState.{Ongoing, NodeState}
 use Rattle.node.specs.IsNode.{IsNode}
+use Rattle.node.specs.Orders.{left_of}
 use Rattle.node.specs.Rebalance.{StepsOn}
 use Rattle.node.specs.Machine.{Event, Run}
 use Rattle.node.specs.Machine.Event.{StepOn}
@@ -26,12 +26,12 @@ abbrev pub IsMore : Event → Type 0
 IsMore (StepOn answer) = answer ≡ Ok More
 IsMore event = Unit {0}
 
--- the hand-over is still open. Each step made one write less to come, and nothing one more. At first at most two for each
--- container were to come. If these steps and one more are two for each container, the next one ends it.
+-- the hand-over is still open. Each step made one write less to come, in the direct order one or more, and nothing one more. At
+-- first at most two for each container were to come. If these steps and one more are two for each container, the next one ends it.
 pub record GoesOn (o : Ongoing) (old : NodeState) (events : List Event) (new : NodeState) : Type 0 where
   pub still : new.ongoing ≡ Some o
-  pub falls : steps_in events + writes_to_come o.targets new.kernel ≤ writes_to_come o.targets old.kernel
-  pub few : writes_to_come o.targets old.kernel ≤ 2 * length o.targets.entries
+  pub falls : steps_in events + left_of o new.kernel ≤ left_of o old.kernel
+  pub few : left_of o old.kernel ≤ 2 * length o.targets.entries
   pub ends : 2 * length o.targets.entries ≤ steps_in events + 1 → (r : Result Progress NodeFault) (after : NodeState) → StepsOn new r after → after.ongoing ≡ None
 
 -- a hand-over ends within two steps for each container, whatever calls and events fall between them; one of no container ends

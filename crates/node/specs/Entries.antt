@@ -1,10 +1,12 @@
 -- What a plan gives to each live container.
-use Rattle.std.specs.Prelude.{ℕ, cond, List, [], ◌∷◌, drop, fold, map, slice_index_or}
+use Rattle.std.specs.Prelude.{ℕ, cond, List, [], ◌∷◌, drop, filter, fold, map, slice_index_or}
 use Rattle.std.specs.FinSet as set
 use Rattle.cpu_set.specs.Ids.{Ids}
 use Rattle.kernel_model.specs.KernelState.{KernelState}
 use Rattle.apply_plan.specs.declared.Entry.{Entry}
 use Rattle.apply_plan.specs.DueWrite.{held}
+use Rattle.node.specs.declared.order.Order.{Order}
+use Rattle.node.specs.declared.order.Order.TheVariants.{InTurn, Directly}
 use Rattle.node.specs.NodeState.{ContainerState, Ongoing, NodeState}
 use Rattle.node.specs.Owners.{is_pinned}
 use Rattle.node.specs.Status.{is_live}
@@ -44,9 +46,20 @@ plan_targets n sets = targets_in n.kernel (plan_pool n sets) n.containers sets
 abbrev pub plan_entries : NodeState → List Ids → List Entry
 plan_entries n sets = entries_in n.kernel (plan_pool n sets) n.containers sets
 
--- the hand-over to a plan, with what each group requests when it begins
-abbrev pub opened : NodeState → List Ids → Ongoing
-opened n sets = record {
+-- what each live container is allowed, in the order of creation
+abbrev pub allowed_in : KernelState → List (List ℕ × ContainerState) → List Ids
+allowed_in k containers = map (λ e. e.1.demand.allowed) (filter (λ e. is_live k e.1) containers)
+
+-- the same, where the order asks for it
+abbrev pub allowed_by : Order → NodeState → List Ids
+allowed_by InTurn n = []
+allowed_by Directly n = allowed_in n.kernel n.containers
+
+-- the hand-over to a plan in this order, with what each group requests when it begins
+abbrev pub opened : Order → NodeState → List Ids → Ongoing
+opened order n sets = record {
   targets = record { entries = plan_entries n sets; reserved = n.machine.reserved };
   requested_at_begin = map (held n.kernel) (plan_entries n sets);
+  order = order;
+  allowed = allowed_by order n;
 }

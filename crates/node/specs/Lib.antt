@@ -1,5 +1,7 @@
 pub mod FaultTitle
 pub mod NodeState
+pub mod LeastCores
+pub mod Orders
 pub mod Status
 pub mod Owners
 pub mod Ongoing

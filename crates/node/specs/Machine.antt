@@ -13,6 +13,7 @@ use Rattle.apply_plan.specs.declared.Progress.{Progress}
 use Rattle.apply_plan.specs.Holders.{AreSafe, IsSafe}
 use Rattle.apply_plan.specs.Effects.{HasOnline}
 use Rattle.node.specs.declared.fault.NodeFault.{NodeFault}
+use Rattle.node.specs.declared.order.Order.{Order}
 use Rattle.node.specs.declared.outcome.Outcome.{Outcome}
 use Rattle.node.specs.declared.outcome.Outcome.TheVariants.{Plan}
 use Rattle.node.specs.NodeState.{NodeState}
@@ -34,8 +35,8 @@ pub data Event : Type 0 where
   Start : List ℕ → Result (Unit {0}) NodeFault → Event
   Kill : List ℕ → List ℕ → Result (Unit {0}) NodeFault → Event
   Delete : List ℕ → Result (Unit {0}) NodeFault → Event
-  Rebalance : Result Outcome (OrMemory NodeFault) → Event
-  Begin : Result Outcome (OrMemory NodeFault) → Event
+  Rebalance : Order → Result Outcome (OrMemory NodeFault) → Event
+  Begin : Order → Result Outcome (OrMemory NodeFault) → Event
   StepOn : Result Progress NodeFault → Event
   Ask : Question → Event
   Fork : ℕ → Result ℕ (OrMemory KernelFault) → Event
@@ -55,8 +56,8 @@ Step old (Update id bundle config answer) new = Updates old id bundle config ans
 Step old (Start id answer) new = Starts old id answer new
 Step old (Kill id signal answer) new = Kills old id signal answer new
 Step old (Delete id answer) new = Deletes old id answer new
-Step old (Rebalance answer) new = Rebalances old answer new
-Step old (Begin answer) new = Begins old answer new
+Step old (Rebalance order answer) new = Rebalances order old answer new
+Step old (Begin order answer) new = Begins order old answer new
 Step old (StepOn answer) new = StepsOn old answer new
 Step old (Ask question) new = Answers old question × (new ≡ old)
 Step old (Fork parent answer) new = Forks old.kernel parent answer new.kernel × InKernel old new
@@ -100,12 +101,12 @@ IsOneStep event = ⊥
 -- these holds of what it leaves, wherever a write fails.
 abbrev pub RebalancesAreSteps : Type 0
 RebalancesAreSteps =
-    (old : NodeState) (total : ℕ) (answer : Result (Unit {0}) KernelFault) (new : NodeState) → Moves old total answer new
-    → (steps : List Event) × AllByRecursion IsOneStep steps × Run old (Begin (Ok (Plan total)) ∷ steps) new
+    (order : Order) (old : NodeState) (total : ℕ) (answer : Result (Unit {0}) KernelFault) (new : NodeState) → Moves order old total answer new
+    → (steps : List Event) × AllByRecursion IsOneStep steps × Run old (Begin order (Ok (Plan total)) ∷ steps) new
 
 -- after any list of them a rebalance leaves what the headline says of its answer. With it stand what the certificate tells
 -- and what a failed write leaves.
 abbrev pub RunsRebalance : Type 0
 RunsRebalance =
-    (first : NodeState) (events : List Event) (old : NodeState) (answer : Result Outcome (OrMemory NodeFault)) (new : NodeState)
-    → IsNode first → Run first events old → Rebalances old answer new → RebalanceLeaves old answer new
+    (first : NodeState) (events : List Event) (order : Order) (old : NodeState) (answer : Result Outcome (OrMemory NodeFault)) (new : NodeState)
+    → IsNode first → Run first events old → Rebalances order old answer new → RebalanceLeaves order old answer new

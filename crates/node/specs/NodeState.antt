@@ -20,6 +20,8 @@ use Rattle.certificate.specs.declared.weights.Weights.{Weights}
 use Rattle.certificate.specs.declared.certificates.Certificate.{Certificate}
 use Rattle.certificate.specs.declared.certificates.Certificate.TheVariants.{Plan, Short}
 use Rattle.apply_plan.specs.Targets.{Targets, targets_code}
+use Rattle.node.specs.declared.order.Order.{Order}
+use Rattle.node.specs.declared.order.Order.TheVariants.{InTurn, Directly}
 use Rattle.node.specs.declared.phase.Phase.{Phase}
 use Rattle.node.specs.declared.phase.Phase.TheVariants.{Settled, Underway, Unsettled}
 
@@ -33,10 +35,13 @@ pub record ContainerState : Type 0 where
   pub pid : ℕ
   pub started : Bool
 
--- a hand-over that is open: its containers with what they are to have, and what each of their groups requested at first
+-- a hand-over that is open: its containers with what they are to have, what each of their groups requested at first, and its
+-- order; in the direct order also what each container is allowed, where it may run on its way
 pub record Ongoing : Type 0 where
   pub targets : Targets
   pub requested_at_begin : List Ids
+  pub order : Order
+  pub allowed : List Ids
 
 -- a node as a plain value: the kernel and the machine, and the group below which the containers' groups are. The containers
 -- by their ids, in the order of creation. The pool: the CPUs that no plan gave to a container. The phase of the last
@@ -114,10 +119,31 @@ container_code =
     (λ p. record { bundle = p.0; demand = p.1.0; runnable = p.1.1.0; group = p.1.1.1.0; pid = p.1.1.1.1.0; started = p.1.1.1.1.1 })
     (λ _. refl)
 
--- a hand-over is stored as the pair of its fields
+-- an order is stored as one of two
+abbrev pub is_direct : Order → Bool
+is_direct InTurn = false
+is_direct Directly = true
+
+-- and read back
+abbrev pub to_order : Bool → Order
+to_order false = InTurn
+to_order true = Directly
+
+pub to_is_direct : (order : Order) → to_order (is_direct order) ≡ order
+to_is_direct InTurn = refl
+to_is_direct Directly = refl
+
+-- a hand-over is stored as the tuple of its fields
 abbrev pub ongoing_code : Coded Ongoing
 ongoing_code =
-    code_by (Targets × List Ids) (coded× targets_code sets_code) (λ o. (o.targets, o.requested_at_begin)) (λ p. record { targets = p.0; requested_at_begin = p.1 }) (λ _. refl)
+    code_by
+    (Targets × (List Ids × (Bool × List Ids)))
+    (coded× targets_code (coded× sets_code (coded× coded_bool sets_code)))
+    (λ o. (o.targets, (o.requested_at_begin, (is_direct o.order, o.allowed))))
+    (λ p. record { targets = p.0; requested_at_begin = p.1.0; order = to_order p.1.1.0; allowed = p.1.1.1 })
+    ongoing_back where
+      ongoing_back : (o : Ongoing) → record { targets = o.targets; requested_at_begin = o.requested_at_begin; order = to_order (is_direct o.order); allowed = o.allowed } ≡ o
+      ongoing_back o = rw (to_is_direct o.order) refl
 
 -- a certificate is stored as one of the two tuples of what it holds
 abbrev pub Held : Type 0

@@ -19,10 +19,10 @@ use Rattle.faults.specs.declared.OrMemory.{OrMemory}
 use Rattle.faults.specs.declared.OrMemory.TheVariants.{Memory, Fault}
 use Rattle.apply_plan.specs.declared.Progress.{Progress}
 use Rattle.apply_plan.specs.declared.Progress.TheVariants.{More, Done}
-use Rattle.apply_plan.specs.DueWrite.{Steps}
 use Rattle.solution.specs.Decides.{DecidesPlan, DecidesShort}
 use Rattle.node.specs.declared.fault.NodeFault.{NodeFault}
 use Rattle.node.specs.declared.fault.NodeFault.TheVariants.{Busy, NoHandover, NoAnswer, Kernel}
+use Rattle.node.specs.declared.order.Order.{Order}
 use Rattle.node.specs.declared.outcome.Outcome.{Outcome}
 use Rattle.node.specs.declared.outcome.Outcome.TheVariants.{Plan, Short}
 use Rattle.node.specs.declared.phase.Phase.{Phase}
@@ -32,6 +32,7 @@ use Rattle.node.specs.IsNode.{IsKept}
 use Rattle.node.specs.Rows.{as_cpus, rows_of, scaled_rows_of, planned, lacking}
 use Rattle.node.specs.Best.{moved, IsBest}
 use Rattle.node.specs.Entries.{plan_pool, opened}
+use Rattle.node.specs.Orders.{StepsBy}
 
 -- what a node's scaled rows come to as a plan of cores. Their CPUs are the best sets that the containers could have. It is a
 -- least plan of these rows, with the cores' distance and their moves as its total.
@@ -49,8 +50,8 @@ ComesTo n (certificate.Short rows members weights) = (weights ≡ WithMoves) × 
 
 -- a plan was made. Its cores' CPUs are the best sets that the containers could have. The cores are a least plan of the rows
 -- and of the scaled rows, whose certificate can be written and proves itself. The total is the cores' distance, for each CPU
--- that a core has. The hand-over to the CPUs is open, and nothing is written yet.
-pub record Begun (old : NodeState) (total : ℕ) (new : NodeState) : Type 0 where
+-- that a core has. The hand-over to the CPUs is open, in this order, and nothing is written yet.
+pub record Begun (order : Order) (old : NodeState) (total : ℕ) (new : NodeState) : Type 0 where
   pub plan : List Ids
   pub prices : PricesView
   pub whole : ℕ
@@ -65,7 +66,7 @@ pub record Begun (old : NodeState) (total : ℕ) (new : NodeState) : Type 0 wher
   pub is : new ≡ record old {
     pool = plan_pool old (as_cpus old.machine plan);
     phase = Underway;
-    ongoing = Some (opened old (as_cpus old.machine plan));
+    ongoing = Some (opened order old (as_cpus old.machine plan));
     last = Some (planned old plan prices whole);
   }
 
@@ -86,24 +87,24 @@ pub record Lacks (old : NodeState) (wanted : ℕ) (allowed : Ids) (new : NodeSta
   pub need : IsNeed old.machine (scaled_rows_of old) members wanted allowed
   pub is : new ≡ record old { last = Some (lacking old members) }
 
--- `begin`: what it answers, and what the node is then
-abbrev pub Begins : NodeState → Result Outcome (OrMemory NodeFault) → NodeState → Type 0
-Begins old (Ok (Plan total)) new = Begun old total new
-Begins old (Ok (Short wanted allowed)) new = Lacks old wanted allowed new
-Begins old (Err Memory) new = (is_underway old.phase ≡ false) × (new ≡ old)
-Begins old (Err (Fault Busy)) new = (is_underway old.phase ≡ true) × (new ≡ old)
-Begins old (Err (Fault fault)) new = ⊥
+-- `begin`, or `begin_directly`, by the order: what it answers, and what the node is then
+abbrev pub Begins : Order → NodeState → Result Outcome (OrMemory NodeFault) → NodeState → Type 0
+Begins order old (Ok (Plan total)) new = Begun order old total new
+Begins order old (Ok (Short wanted allowed)) new = Lacks old wanted allowed new
+Begins order old (Err Memory) new = (is_underway old.phase ≡ false) × (new ≡ old)
+Begins order old (Err (Fault Busy)) new = (is_underway old.phase ≡ true) × (new ≡ old)
+Begins order old (Err (Fault fault)) new = ⊥
 
 -- the same where no hand-over is open, as the program asks for it; only memory can be wanting
-abbrev pub WorksOut : {E : Type 0} → NodeState → Result Outcome E → NodeState → Type 0
-WorksOut old (Ok outcome) new = Begins old (Ok outcome) new
-WorksOut old (Err e) new = new ≡ old
+abbrev pub WorksOut : {E : Type 0} → Order → NodeState → Result Outcome E → NodeState → Type 0
+WorksOut order old (Ok outcome) new = Begins order old (Ok outcome) new
+WorksOut order old (Err e) new = new ≡ old
 
--- a step of the hand-over that is open, and how it stands then
+-- a step of the hand-over that is open, in its order, and how it stands then
 pub record Stepped (old : NodeState) (r : Result Progress KernelFault) (phase : Phase) (ongoing : Option Ongoing) (new : NodeState) : Type 0 where
   pub handover : Ongoing
   pub was : old.ongoing ≡ Some handover
-  pub steps : Steps handover.targets old.kernel r new.kernel
+  pub steps : StepsBy handover.order old.machine handover old.kernel r new.kernel
   pub is : new ≡ record old { kernel = new.kernel; phase = phase; ongoing = ongoing }
 
 -- `step`: the write that is due; the hand-over ends if nothing is due after it, or if the write failed
@@ -131,18 +132,18 @@ pub record Finishes (old : NodeState) (r : Result (Unit {0}) KernelFault) (new :
   pub more : StepsMore steps old mid
   pub ends : Ends mid r new
 
--- `begin`, and steps until its hand-over ends
-pub record Moves (old : NodeState) (total : ℕ) (r : Result (Unit {0}) KernelFault) (new : NodeState) : Type 0 where
+-- `begin` in this order, and steps until its hand-over ends
+pub record Moves (order : Order) (old : NodeState) (total : ℕ) (r : Result (Unit {0}) KernelFault) (new : NodeState) : Type 0 where
   pub mid : NodeState
-  pub begun : Begun old total mid
+  pub begun : Begun order old total mid
   pub finishes : Finishes mid r new
 
--- `rebalance`: what `begin` and steps until the hand-over ends leave
-abbrev pub Rebalances : NodeState → Result Outcome (OrMemory NodeFault) → NodeState → Type 0
-Rebalances old (Ok (Plan total)) new = Moves old total (Ok tt) new
-Rebalances old (Ok (Short wanted allowed)) new = Lacks old wanted allowed new
-Rebalances old (Err (Fault (Kernel fault))) new = (total : ℕ) × Moves old total (Err fault) new
-Rebalances old (Err error) new = Begins old (Err error) new
+-- `rebalance`, or `rebalance_directly`, by the order: what `begin` and steps until the hand-over ends leave
+abbrev pub Rebalances : Order → NodeState → Result Outcome (OrMemory NodeFault) → NodeState → Type 0
+Rebalances order old (Ok (Plan total)) new = Moves order old total (Ok tt) new
+Rebalances order old (Ok (Short wanted allowed)) new = Lacks old wanted allowed new
+Rebalances order old (Err (Fault (Kernel fault))) new = (total : ℕ) × Moves order old total (Err fault) new
+Rebalances order old (Err error) new = Begins order old (Err error) new
 
 -- `certificate`: what was worked out last
 abbrev pub ShowsCertificate : NodeState → Result Certificate NodeFault → Type 0

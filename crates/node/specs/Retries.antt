@@ -6,6 +6,7 @@ use Rattle.faults.specs.declared.OrMemory.TheVariants.{Memory, Fault}
 use Rattle.kernel_model.specs.declared.KernelFault.TheVariants.{Failed}
 use Rattle.node.specs.declared.fault.NodeFault.{NodeFault}
 use Rattle.node.specs.declared.fault.NodeFault.TheVariants.{Kernel}
+use Rattle.node.specs.declared.order.Order.{Order}
 use Rattle.node.specs.declared.outcome.Outcome.{Outcome}
 use Rattle.node.specs.NodeState.{NodeState, is_underway}
 use Rattle.node.specs.IsNode.{IsNode}
@@ -40,8 +41,8 @@ pub record RetriesLeave (old : NodeState) (answers : List Answer) (new : NodeSta
   pub ends : new.kernel.failures < old.kernel.failures + length answers → list_any is_answer answers ≡ true
   pub few : new.kernel.writes ≤ old.kernel.writes + failed_in answers + (failed_in answers + 1) * (2 * live_count old)
 
--- rebalances in a row leave that, if no hand-over is open before them
+-- rebalances in a row, each in its order and with its answer, leave that, if no hand-over is open before them
 abbrev pub RetriesEnd : Type 0
 RetriesEnd =
-    (old : NodeState) (answers : List Answer) (new : NodeState) → IsNode old → is_underway old.phase ≡ false → Run old (map Rebalance answers) new
-    → RetriesLeave old answers new
+    (old : NodeState) (calls : List (Order × Answer)) (new : NodeState) → IsNode old → is_underway old.phase ≡ false
+    → Run old (map (λ c. Rebalance c.0 c.1) calls) new → RetriesLeave old (map (λ c. c.1) calls) new

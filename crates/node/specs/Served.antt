@@ -14,6 +14,7 @@ use Rattle.demand.specs.Quota.{limit_of, period_of}
 use Rattle.demand.specs.Allowed.{allowed_of}
 use Rattle.demand.specs.DemandFaultOf.{is_pinned}
 use Rattle.demand.specs.IsDemand.{IsKind}
+use Rattle.node.specs.declared.order.Order.{Order}
 use Rattle.node.specs.declared.outcome.Outcome.TheVariants.{Plan}
 use Rattle.node.specs.NodeState.{ContainerState, NodeState}
 use Rattle.node.specs.Status.{is_live}
@@ -42,5 +43,5 @@ pub record HasAsked (events : List Event) (m : Layout) (k : KernelState) (pool :
 -- each container has what it asked for once a rebalance answered a plan, after any list of calls and events from none on
 abbrev pub RunsServeConfigs : Type 0
 RunsServeConfigs =
-    (first : NodeState) (events : List Event) (old : NodeState) (total : ℕ) (new : NodeState) → IsNode first → first.containers ≡ [] → Run first events old
-    → Rebalances old (Ok (Plan total)) new → AllByRecursion (HasAsked events new.machine new.kernel new.pool) new.containers
+    (first : NodeState) (events : List Event) (order : Order) (old : NodeState) (total : ℕ) (new : NodeState) → IsNode first → first.containers ≡ [] → Run first events old
+    → Rebalances order old (Ok (Plan total)) new → AllByRecursion (HasAsked events new.machine new.kernel new.pool) new.containers

@@ -6,6 +6,7 @@ use Rattle.faults.specs.declared.OrMemory.{OrMemory}
 use Rattle.faults.specs.declared.OrMemory.TheVariants.{Memory}
 use Rattle.demand.specs.declared.Kind.TheVariants.{Shared}
 use Rattle.node.specs.declared.fault.NodeFault.{NodeFault}
+use Rattle.node.specs.declared.order.Order.{Order}
 use Rattle.node.specs.declared.outcome.Outcome.{Outcome}
 use Rattle.node.specs.declared.outcome.Outcome.TheVariants.{Plan}
 use Rattle.node.specs.declared.phase.Phase.TheVariants.{Settled}
@@ -44,15 +45,15 @@ KeepsPlan old total answer new = ⊥
 -- where a plan stands, a rebalance keeps it
 abbrev pub StandingPlansAreKept : Type 0
 StandingPlansAreKept =
-    (old : NodeState) (total : ℕ) (answer : Result Outcome (OrMemory NodeFault)) (new : NodeState) → IsNode old → PlanStands old total
-    → Rebalances old answer new → KeepsPlan old total answer new
+    (order : Order) (old : NodeState) (total : ℕ) (answer : Result Outcome (OrMemory NodeFault)) (new : NodeState) → IsNode old → PlanStands old total
+    → Rebalances order old answer new → KeepsPlan old total answer new
 
 -- a plan stands once a rebalance answered it
 abbrev pub AnsweredPlansStand : Type 0
-AnsweredPlansStand = (old : NodeState) (total : ℕ) (new : NodeState) → IsNode old → Rebalances old (Ok (Plan total)) new → PlanStands new total
+AnsweredPlansStand = (order : Order) (old : NodeState) (total : ℕ) (new : NodeState) → IsNode old → Rebalances order old (Ok (Plan total)) new → PlanStands new total
 
 -- so a second rebalance in a row keeps what the first one answered
 abbrev pub SecondsKeepPlans : Type 0
 SecondsKeepPlans =
-    (first : NodeState) (total : ℕ) (old : NodeState) (answer : Result Outcome (OrMemory NodeFault)) (new : NodeState) → IsNode first
-    → Rebalances first (Ok (Plan total)) old → Rebalances old answer new → KeepsPlan old total answer new
+    (before after : Order) (first : NodeState) (total : ℕ) (old : NodeState) (answer : Result Outcome (OrMemory NodeFault)) (new : NodeState) → IsNode first
+    → Rebalances before first (Ok (Plan total)) old → Rebalances after old answer new → KeepsPlan old total answer new

@@ -6,8 +6,11 @@ use Rattle.cpuset_tree.specs.declared.Group.{Group}
 use Rattle.cpuset_tree.specs.Groups.{child_of, root_of}
 use Rattle.kernel_model.specs.KernelState.{KernelState}
 use Rattle.apply_plan.specs.DueWrite.{writes_to_come}
+use Rattle.apply_plan.specs.MayWrite.{left_directly}
 use Rattle.node.specs.declared.fault.NodeFault.{NodeFault}
 use Rattle.node.specs.declared.fault.NodeFault.TheVariants.{Kernel}
+use Rattle.node.specs.declared.order.Order.{Order}
+use Rattle.node.specs.declared.order.Order.TheVariants.{InTurn, Directly}
 use Rattle.node.specs.declared.outcome.Outcome.{Outcome}
 use Rattle.node.specs.declared.outcome.Outcome.TheVariants.{Plan, Short}
 use Rattle.node.specs.NodeState.{NodeState}
@@ -39,16 +42,23 @@ CreateWrites old id (Err error) new = new.kernel.writes ≤ old.kernel.writes + 
 abbrev pub live_count : NodeState → ℕ
 live_count n = length (filter (λ e. is_live n.kernel e.1) n.containers)
 
--- to a plan a `rebalance` makes exactly the writes of the hand-over to the sets then in effect: at most two for each live
--- container
-pub record PlanWrites (old : NodeState) (new : NodeState) : Type 0 where
-  pub exact : new.kernel.writes ≡ old.kernel.writes + writes_to_come (opened old (effective_sets new.kernel new.containers)).targets old.kernel
+-- to a plan a `rebalance` makes exactly the writes of the hand-over to the sets then in effect; in the direct order at most
+-- those that were left of it
+abbrev pub MakesThose : Order → NodeState → NodeState → Type 0
+MakesThose InTurn old new =
+    new.kernel.writes ≡ old.kernel.writes + writes_to_come (opened InTurn old (effective_sets new.kernel new.containers)).targets old.kernel
+MakesThose Directly old new =
+    new.kernel.writes ≤ old.kernel.writes + left_directly (opened Directly old (effective_sets new.kernel new.containers)).targets old.kernel
+
+-- these are at most two for each live container
+pub record PlanWrites (order : Order) (old : NodeState) (new : NodeState) : Type 0 where
+  pub exact : MakesThose order old new
   pub few : new.kernel.writes ≤ old.kernel.writes + 2 * live_count old
 
--- how many writing calls a `rebalance` makes. To a plan those, and none if there is no plan. If a write fails, at most one
+-- how many writing calls a `rebalance` in this order makes. To a plan those, and none if there is no plan. If a write fails, at most one
 -- more than two for each live container.
-abbrev pub RebalanceWrites : NodeState → Result Outcome (OrMemory NodeFault) → NodeState → Type 0
-RebalanceWrites old (Ok (Plan total)) new = PlanWrites old new
-RebalanceWrites old (Ok (Short wanted allowed)) new = new.kernel.writes ≡ old.kernel.writes
-RebalanceWrites old (Err (Fault (Kernel fault))) new = new.kernel.writes ≤ old.kernel.writes + 2 * live_count old + 1
-RebalanceWrites old (Err error) new = new.kernel.writes ≡ old.kernel.writes
+abbrev pub RebalanceWrites : Order → NodeState → Result Outcome (OrMemory NodeFault) → NodeState → Type 0
+RebalanceWrites order old (Ok (Plan total)) new = PlanWrites order old new
+RebalanceWrites order old (Ok (Short wanted allowed)) new = new.kernel.writes ≡ old.kernel.writes
+RebalanceWrites order old (Err (Fault (Kernel fault))) new = new.kernel.writes ≤ old.kernel.writes + 2 * live_count old + 1
+RebalanceWrites order old (Err error) new = new.kernel.writes ≡ old.kernel.writes

@@ -12,6 +12,7 @@
 
 mod container;
 mod containers;
+mod course;
 mod create;
 mod events;
 mod fault;
@@ -24,8 +25,10 @@ mod named;
 mod node;
 mod ongoing;
 mod opening;
+mod order;
 mod outcome;
 mod phase;
+mod places;
 mod planning;
 mod problem;
 mod sets;
@@ -39,6 +42,7 @@ pub use fault::NodeFault;
 pub use list::Listing;
 pub use named::Named;
 pub use node::{GROUP_NAME, Node, NotOpened};
+pub use order::Order;
 pub use outcome::Outcome;
 pub use phase::Phase;
 pub use sets::Sets;

@@ -3,19 +3,21 @@ ghost use Rattle.std.specs.Prelude.{◌≡◌, ◌++◌, ◌∷◌, List, ℕ, t
 ghost use Rattle.std.specs.List.{AllByRecursion};
 ghost use Rattle.std.specs.FinSet as set;
 ghost use Rattle.std.specs.Slice.Iter.{iter_rest};
+ghost use Rattle.cpu_set.specs.Ids.{Ids};
 ghost use Rattle.cpu_set.specs.Members.{InRange};
-ghost use Rattle.apply_plan.specs.Targets.{ArePlaced};
+ghost use Rattle.apply_plan.specs.Targets.{IsHandover, ArePlaced};
 ghost use Rattle.apply_plan.specs.DueWrite.{held};
 ghost use Rattle.node.specs.NodeState.{ContainerState};
-ghost use Rattle.node.specs.Entries.{pool_of, entries_in};
+ghost use Rattle.node.specs.Entries.{pool_of, entries_in, allowed_in};
 ghost use Rattle.node.specs.Kept.{AreKept};
 ghost use Rattle.node.specs.Rows.{as_cpus};
 ghost use Rattle.node.specs.Viewed.{viewed, all_seen};
 
-use crate::Node;
 use crate::container::Container;
+use crate::course::Course;
 use crate::ongoing::Ongoing;
-use apply_plan::{Entry, Handover};
+use crate::{Node, Order};
+use apply_plan::{DirectHandover, Entry, Handover};
 use cpu_set::IdSet;
 use demand::Kind;
 use indexmap::IndexMap;
@@ -119,6 +121,23 @@ fn entries_in<K: Kernel>(
     Ok(entries)
 }
 
+/// What each of the live containers is allowed, in their order.
+fn allowed_in<K: Kernel>(
+    alloc: Global,
+    kernel: &K,
+    containers: &IndexMap<String, Container>,
+) -> Result<Vec<IdSet>, AllocError>
+    ensures { IfOk result (λ sets. sets.items ≡ allowed_in (K.state kernel.now) (all_seen containers.now.entries)) }
+{
+    let mut sets = Vec::with_capacity(alloc, containers.len())?;
+    for (_, container) in containers.iter() {
+        if kernel.first_alive(container.pid) {
+            sets.push(container.demand.allowed)?;
+        }
+    }
+    Ok(sets)
+}
+
 /// What the groups of the entries request.
 fn requests_of<K: Kernel>(
     alloc: Global,
@@ -140,42 +159,64 @@ impl<K: Kernel + Drop> Node<K> {
     ghost use Rattle.node.specs.Best.{CouldHave};
     ghost use Rattle.node.specs.Owners.{owners_of};
     ghost use Rattle.node.specs.Rows.{rows_of};
-    ghost use Rattle.node.specs.Entries.{plan_pool, opened};
+    ghost use Rattle.node.specs.Entries.{plan_pool, allowed_by, opened};
     ghost use Rattle.node.specs.Ongoing.{IsOngoing};
-    ghost use Rattle.node.specs.Viewed.{seen_ongoing};
+    ghost use Rattle.node.specs.Viewed.{seen_by, seen_ongoing};
 
-    /// The pool that a plan of cores leaves, of whose CPUs these are kept, and the hand-over to them.
+    /// The pool that a plan of cores leaves, of whose CPUs these are kept, and the hand-over to them in this order.
     pub(crate) fn opening(
         &self,
+        order: Order,
         plan: &[IdSet],
         kept: &[IdSet],
     ) -> Result<(IdSet, Ongoing), AllocError>
         requires plan { IsPlan (rows_of self.now) plan.now }
         requires kept { AreKept self.now.machine plan.now kept.now }
         ensures pool { IfOk result (λ p. p.0 ≡ plan_pool self.now (as_cpus self.now.machine plan.now)) }
-        ensures ongoing { IfOk result (λ p. seen_ongoing p.1 ≡ opened self.now (as_cpus self.now.machine plan.now)) }
+        ensures ongoing { IfOk result (λ p. seen_ongoing p.1 ≡ opened order self.now (as_cpus self.now.machine plan.now)) }
         ensures stands { IfOk result (λ p. IsOngoing self.now.kernel (owners_of self.now.containers)
             (seen_ongoing p.1)) }
     {
-        self.opening_to(shown_cpus(&self.machine, plan, kept))
+        self.opening_to(order, shown_cpus(&self.machine, plan, kept))
     }
 
-    /// The pool that these sets of CPUs leave, and the hand-over to them.
-    fn opening_to(&self, sets: &[IdSet]) -> Result<(IdSet, Ongoing), AllocError>
+    /// The hand-over of these entries in this order.
+    fn course(&self, order: Order, entries: Vec<Entry>) -> Result<Course, AllocError>
+        requires { IsHandover (record { entries = entries.items; reserved = self.now.machine.reserved }) }
+        ensures { IfOk result (λ course. (found : List Ids) → seen_by course found ≡ record {
+          targets = record { entries = entries.items; reserved = self.now.machine.reserved };
+          requested_at_begin = found;
+          order = order;
+          allowed = allowed_by order self.now;
+        }) }
+    {
+        let reserved = self.machine.reserved();
+        match order {
+            Order::InTurn => Ok(Course::InTurn(Handover::new(entries, reserved))),
+            Order::Directly => {
+                let allowed = allowed_in(self.alloc, &self.kernel, &self.containers)?;
+                let handover = DirectHandover::new(self.alloc, entries, allowed, reserved)?;
+                Ok(Course::Directly(handover))
+            }
+        }
+    }
+
+    /// The pool that these sets of CPUs leave, and the hand-over to them in this order.
+    fn opening_to(&self, order: Order, sets: &[IdSet]) -> Result<(IdSet, Ongoing), AllocError>
         requires { CouldHave self.now sets.now }
         ensures pool { IfOk result (λ p. p.0 ≡ plan_pool self.now sets.now) }
-        ensures ongoing { IfOk result (λ p. seen_ongoing p.1 ≡ opened self.now sets.now) }
+        ensures ongoing { IfOk result (λ p. seen_ongoing p.1 ≡ opened order self.now sets.now) }
         ensures stands { IfOk result (λ p. IsOngoing self.now.kernel (owners_of self.now.containers)
             (seen_ongoing p.1)) }
     {
         let pool = pool_of(&self.kernel.online(), sets);
         let entries = entries_in(self.alloc, &self.kernel, &self.containers, sets, &pool)?;
         let requested_at_begin = requests_of(self.alloc, &self.kernel, &entries)?;
-        let handover = Handover::new(entries, self.machine.reserved());
+        let course = self.course(order, entries)?;
         Ok((
             pool,
             Ongoing {
-                handover,
+                course,
                 requested_at_begin,
             },
         ))

@@ -12,6 +12,7 @@ ghost use Rattle.node.specs.Leaves.{rise_or_memory};
 ghost use Rattle.node.specs.Owners.{owners_of};
 ghost use Rattle.node.specs.Ongoing.{IsOngoing};
 ghost use Rattle.node.specs.Viewed.{seen_ongoing};
+ghost use Rattle.node.specs.declared.order.Order.TheVariants.{InTurn, Directly};
 ghost use Rattle.node.specs.declared.phase.Phase.TheVariants.{Underway};
 ghost use Rattle.node.specs.Headline.{Headline};
 ghost use Rattle.node.specs.Tells.{Tells};
@@ -21,7 +22,7 @@ ghost use Rattle.node.specs.Rebalance.{Begins, ComesTo, Finishes, Rebalances, Wo
 
 use crate::ongoing::Ongoing;
 use crate::opening::kept_cpus;
-use crate::{Node, NodeFault, Outcome, Phase};
+use crate::{Node, NodeFault, Order, Outcome, Phase};
 use certificate::{Certificate, Cost, Problem, Weights, check_shortage, offered_to};
 use cpu_set::IdSet;
 use faults::OrMemory;
@@ -96,17 +97,17 @@ impl<K: Kernel + Drop> Node<K> {
         decide(self.alloc, self.problem()?, Weights::WithMoves)
     }
 
-    /// Plans, and opens the hand-over to the plan; or finds a shortage.
-    fn plan_and_open(&mut self) -> Result<Outcome, AllocError>
+    /// Plans, and opens the hand-over to the plan in this order; or finds a shortage.
+    fn plan_and_open(&mut self, order: Order) -> Result<Outcome, AllocError>
         requires { is_underway self.old.phase ≡ false }
-        ensures { WorksOut self.old result self.new }
+        ensures { WorksOut order self.old result self.new }
     {
         let certificate = self.answer()?;
         let (outcome, kept) = match &certificate {
             Certificate::Plan { plan, total, .. } => {
                 let cores = plan.sets.as_slice();
                 let kept = kept_cpus(self.alloc, &self.machine, cores)?;
-                let (pool, ongoing) = self.opening(cores, kept.as_slice())?;
+                let (pool, ongoing) = self.opening(order, cores, kept.as_slice())?;
                 self.open_to(pool, ongoing);
                 let distance = Cost::unpack(*total).distance;
                 (Outcome::Plan(in_cpus(distance, self.threads())), kept)
@@ -124,6 +125,16 @@ impl<K: Kernel + Drop> Node<K> {
         Ok(outcome)
     }
 
+    /// Plans, and opens the hand-over to the plan in this order, unless one is open.
+    fn begin_in(&mut self, order: Order) -> Result<Outcome, OrMemory<NodeFault>>
+        ensures { Begins order self.old result self.new }
+    {
+        if self.phase.is_underway() {
+            return Err(OrMemory::Fault(NodeFault::Busy));
+        }
+        Ok(self.plan_and_open(order)?)
+    }
+
     /// Works out a plan of the live containers of least total distance to the home nodes. Among all plans of that total
     /// it moves the fewest cores. It opens the hand-over to it, of which [`step`](Node::step) makes the writes one by
     /// one. If there is no plan, a shortage shows why. In the kernel nothing is written.
@@ -137,12 +148,23 @@ impl<K: Kernel + Drop> Node<K> {
         // by distance (`least`). The total is that cost, for each CPU that a core has (`counts`). Twins of the scaled
         // rows are dealt by the rule (`decides`). It opens the hand-over to the plan, or answers a shortage if there is
         // none. Either way the certificate is of these rows, scaled, and nothing is written.
-        ensures { Begins self.old result self.new }
+        ensures { Begins InTurn self.old result self.new }
     {
-        if self.phase.is_underway() {
-            return Err(OrMemory::Fault(NodeFault::Busy));
-        }
-        Ok(self.plan_and_open()?)
+        self.begin_in(Order::InTurn)
+    }
+
+    /// Works out what [`begin`](Node::begin) does, and opens the hand-over to it in the direct order (make before
+    /// break): a container gets its CPUs as soon as no rival has any of them, and gives way only in a ring of
+    /// containers that wait for each other.
+    ///
+    /// # Errors
+    /// Those of `begin`.
+    pub fn begin_directly(&mut self) -> Result<Outcome, OrMemory<NodeFault>>
+        // What it answers is what `begin` would, of the same plan. The hand-over that it opens goes in the direct
+        // order.
+        ensures { Begins Directly self.old result self.new }
+    {
+        self.begin_in(Order::Directly)
     }
 
     /// Makes all writes of the open hand-over, up to the first that fails; either ends it.
@@ -153,7 +175,7 @@ impl<K: Kernel + Drop> Node<K> {
         let Some(mut ongoing) = self.ongoing.take() else {
             unreachable!()
         };
-        match ongoing.handover.finish(&mut self.kernel) {
+        match ongoing.course.finish(&mut self.kernel, &self.machine) {
             Ok(()) => {
                 self.phase = Phase::Settled;
                 Ok(())
@@ -165,11 +187,11 @@ impl<K: Kernel + Drop> Node<K> {
         }
     }
 
-    /// Works out a plan and makes all writes of its hand-over.
-    fn rebalance_body(&mut self) -> Result<Outcome, OrMemory<NodeFault>>
-        ensures { Rebalances self.old result self.new }
+    /// Works out a plan and makes all writes of its hand-over in this order.
+    fn rebalance_in(&mut self, order: Order) -> Result<Outcome, OrMemory<NodeFault>>
+        ensures { Rebalances order self.old result self.new }
     {
-        let outcome = self.begin()?;
+        let outcome = self.begin_in(order)?;
         if let Outcome::Plan(_) = outcome {
             if let Err(fault) = self.finish() {
                 return Err(OrMemory::Fault(NodeFault::Kernel(fault)));
@@ -210,18 +232,47 @@ impl<K: Kernel + Drop> Node<K> {
         // If a write failed, each container requests what it did before, what it keeps of that, or what the plan gave
         // it. Nothing else changed in the kernel but its counts, and the hand-over is over. The plan that it began was
         // as good as that of `begin`, and the certificate tells it (`best` and `told` of `IsBrokenOff`).
-        ensures broken { BreaksOff self.old result self.new }
+        ensures broken { BreaksOff InTurn self.old result self.new }
         // It is `begin`, and what single steps until the hand-over ends would do. `Busy` and an allocation failure
         // change nothing.
-        ensures rebalances { Rebalances self.old result self.new }
+        ensures rebalances { Rebalances InTurn self.old result self.new }
         ensures counted { self.new.kernel.failures ≡ self.old.kernel.failures + rise_or_memory result }
         // To a plan it makes exactly the writing calls that were to come of the hand-over to the sets then in effect.
         // These are at most two for each live container. If a write fails, at most one more than two for each is made,
         // and if there is no plan none.
-        ensures made { RebalanceWrites self.old result self.new }
+        ensures made { RebalanceWrites InTurn self.old result self.new }
     {
         self.holds();
-        self.rebalance_body()
+        self.rebalance_in(Order::InTurn)
+    }
+
+    /// Works out what [`rebalance`](Node::rebalance) does, and moves the containers in the direct order (make before
+    /// break): each gets its CPUs as soon as no rival has any of them. It runs on the reserved CPUs on its way only if
+    /// it stands in a ring of containers that wait for each other, in which nobody can give way otherwise.
+    ///
+    /// It makes single steps, of which each looks all containers through. All memory is taken before the first write.
+    ///
+    /// # Errors
+    /// Those of `rebalance`; after `Failed` each container requests none but CPUs that it requested before, of what the
+    /// plan gave it, reserved or allowed to it, and all that the plan gave it and it requested before.
+    pub fn rebalance_directly(&mut self) -> Result<Outcome, OrMemory<NodeFault>>
+        // The host has then what `rebalance` leaves it.
+        ensures headline { Headline self.old result self.new }
+        // The certificate tells the same.
+        ensures told { Tells self.old result self.new }
+        // If a write failed, each container requests what it may on its way. Nothing else changed in the kernel but its
+        // counts, and the hand-over is over. The plan was as good as that of `begin`, and the certificate tells it.
+        ensures broken { BreaksOff Directly self.old result self.new }
+        // It is `begin_directly`, and single steps until the hand-over ends. `Busy` and an allocation failure change
+        // nothing.
+        ensures rebalances { Rebalances Directly self.old result self.new }
+        ensures counted { self.new.kernel.failures ≡ self.old.kernel.failures + rise_or_memory result }
+        // It makes at most two writing calls for each live container. If a write fails, at most one more is made, and
+        // if there is no plan none.
+        ensures made { RebalanceWrites Directly self.old result self.new }
+    {
+        self.holds();
+        self.rebalance_in(Order::Directly)
     }
 
     /// The certificate of the last plan or shortage that was worked out. It can be written as text, in numbers that its

@@ -19,6 +19,7 @@ use Rattle.apply_plan.specs.declared.Progress.TheVariants.{More, Done}
 use Rattle.kernel_model.specs.declared.KernelFault.TheVariants.{NoPids}
 use Rattle.node.specs.declared.fault.NodeFault.{NodeFault}
 use Rattle.node.specs.declared.fault.NodeFault.TheVariants.{Busy, NoHandover, Kernel}
+use Rattle.node.specs.declared.order.Order.{Order}
 use Rattle.node.specs.declared.outcome.Outcome.{Outcome}
 use Rattle.node.specs.declared.outcome.Outcome.TheVariants.{Plan, Short}
 use Rattle.node.specs.IsNode.{IsNode}
@@ -111,36 +112,36 @@ step_last old new (Err NoHandover) s = ap (λ (n : NodeState). n.last) s.1
 step_last old new (Err fault) s = absurd s
 
 module _ (keep : RunsKeep) (leaves : RunsRebalance) (last_proved : LastIsProved) (total_proved : TotalIsProved) (short_proved : ShortIsProved) where
-  begin_told : (told : Option Verdict) (old new : NodeState) (r : Result Outcome (OrMemory NodeFault)) → IsNode old → IsNode new → (s : Begins old r new) → IsLastTold told old
-      → IsLastTold (told_with told old (Begin r) new s) new
-  begin_told told old new (Ok (Plan total)) node after b h =
+  begin_told : (order : Order) (told : Option Verdict) (old new : NodeState) (r : Result Outcome (OrMemory NodeFault)) → IsNode old → IsNode new → (s : Begins order old r new) → IsLastTold told old
+      → IsLastTold (told_with told old (Begin order r) new s) new
+  begin_told order told old new (Ok (Plan total)) node after b h =
       let c : Certificate = planned old b.plan b.prices b.whole in
       let is : new.last ≡ Some c = ap (λ (n : NodeState). n.last) b.is in
       now_told new _ c is (subst (λ v. IsVerdict (text_of c) v)
       (of_parts b.whole b.distance _ b.parts ∙ ap (λ d. proves.Moves d (moved old (as_cpus old.machine b.plan))) (sym (by_core old node total b.distance b.counts)))
       (last_proved new after c is))
-  begin_told told old new (Ok (Short wanted allowed)) node after l h =
+  begin_told order told old new (Ok (Short wanted allowed)) node after l h =
       let c : Certificate = lacking old l.members in
       let is : new.last ≡ Some c = ap (λ (n : NodeState). n.last) l.is in
       now_told new _ c is (short_told old new wanted allowed node c (short_proved old new wanted allowed after l c is))
-  begin_told told old new (Err Memory) node after b h = still_told told old new (ap (λ (n : NodeState). n.last) b.1) h
-  begin_told told old new (Err (Fault Busy)) node after b h = still_told told old new (ap (λ (n : NodeState). n.last) b.1) h
-  begin_told told old new (Err (Fault fault)) node after b h = absurd b
+  begin_told order told old new (Err Memory) node after b h = still_told told old new (ap (λ (n : NodeState). n.last) b.1) h
+  begin_told order told old new (Err (Fault Busy)) node after b h = still_told told old new (ap (λ (n : NodeState). n.last) b.1) h
+  begin_told order told old new (Err (Fault fault)) node after b h = absurd b
 
-  rebalance_told : (told : Option Verdict) (old new : NodeState) (r : Result Outcome (OrMemory NodeFault)) → IsNode old → IsNode new → (s : Rebalances old r new) → IsLastTold told old
-      → IsLastTold (told_with told old (Rebalance r) new s) new
-  rebalance_told told old new (Ok (Plan total)) node after m h =
-      let b = (leaves old [] old (Ok (Plan total)) new node refl m).told in
+  rebalance_told : (order : Order) (told : Option Verdict) (old new : NodeState) (r : Result Outcome (OrMemory NodeFault)) → IsNode old → IsNode new → (s : Rebalances order old r new) → IsLastTold told old
+      → IsLastTold (told_with told old (Rebalance order r) new s) new
+  rebalance_told order told old new (Ok (Plan total)) node after m h =
+      let b = (leaves old [] order old (Ok (Plan total)) new node refl m).told in
       let c : Certificate = planned old (as_cores old.machine (effective_sets new.kernel new.containers)) b.told.prices b.told.whole in
       now_told new _ c b.told.is (total_told old new total node c (total_proved old new total after b c b.told.is))
-  rebalance_told told old new (Ok (Short wanted allowed)) node after l h =
+  rebalance_told order told old new (Ok (Short wanted allowed)) node after l h =
       let c : Certificate = lacking old l.members in
       let is : new.last ≡ Some c = ap (λ (n : NodeState). n.last) l.is in
       now_told new _ c is (short_told old new wanted allowed node c (short_proved old new wanted allowed after l c is))
-  rebalance_told told old new (Err Memory) node after b h = still_told told old new (ap (λ (n : NodeState). n.last) b.1) h
-  rebalance_told told old new (Err (Fault (Kernel fault))) node after m h = nothing_told new
-  rebalance_told told old new (Err (Fault Busy)) node after b h = still_told told old new (ap (λ (n : NodeState). n.last) b.1) h
-  rebalance_told told old new (Err (Fault fault)) node after b h = absurd b
+  rebalance_told order told old new (Err Memory) node after b h = still_told told old new (ap (λ (n : NodeState). n.last) b.1) h
+  rebalance_told order told old new (Err (Fault (Kernel fault))) node after m h = nothing_told new
+  rebalance_told order told old new (Err (Fault Busy)) node after b h = still_told told old new (ap (λ (n : NodeState). n.last) b.1) h
+  rebalance_told order told old new (Err (Fault fault)) node after b h = absurd b
 
   told_more : (told : Option Verdict) (old : NodeState) (event : Event) (new : NodeState) → IsNode old → IsNode new → (s : Step old event new) → IsLastTold told old
       → IsLastTold (told_with told old event new s) new
@@ -150,8 +151,8 @@ module _ (keep : RunsKeep) (leaves : RunsRebalance) (last_proved : LastIsProved)
   told_more told old (Start id answer) new node after s h = still_told told old new (start_last old new id answer s) h
   told_more told old (Kill id signal answer) new node after s h = still_told told old new (kill_last old new id signal answer s) h
   told_more told old (Delete id answer) new node after s h = still_told told old new (delete_last old new id answer s) h
-  told_more told old (Rebalance answer) new node after s h = rebalance_told told old new answer node after s h
-  told_more told old (Begin answer) new node after s h = begin_told told old new answer node after s h
+  told_more told old (Rebalance order answer) new node after s h = rebalance_told order told old new answer node after s h
+  told_more told old (Begin order answer) new node after s h = begin_told order told old new answer node after s h
   told_more told old (StepOn answer) new node after s h = still_told told old new (step_last old new answer s) h
   told_more told old (Ask question) new node after s h = still_told told old new (ap (λ (n : NodeState). n.last) s.1) h
   told_more told old (Fork parent answer) new node after s h = still_told told old new (ap (λ (n : NodeState). n.last) s.1) h

@@ -6,6 +6,7 @@ use Rattle.cpu_set.specs.Ids.{Ids}
 use Rattle.certificate.specs.declared.certificates.Certificate.{Certificate}
 use Rattle.node.specs.declared.named.Named.{Named}
 use Rattle.node.specs.declared.named.Named.TheVariants.{Holders, Members}
+use Rattle.node.specs.declared.order.Order.{Order}
 use Rattle.node.specs.declared.outcome.Outcome.{Outcome}
 use Rattle.node.specs.declared.outcome.Outcome.TheVariants.{Plan, Short}
 use Rattle.node.specs.Named.{Names}
@@ -31,6 +32,6 @@ pub rebalanced_last : (old new : NodeState) (outcome : Outcome) → Tells old (O
 rebalanced_last old new (Plan total) t = there new.last _ t.told.is
 rebalanced_last old new (Short wanted allowed) t = there new.last _ t.named
 
-pub begun_last : (old new : NodeState) (outcome : Outcome) → Begins old (Ok outcome) new → IsSome new.last
-begun_last old new (Plan total) b = there new.last _ (ap (λ (n : NodeState). n.last) b.is)
-begun_last old new (Short wanted allowed) b = there new.last _ (ap (λ (n : NodeState). n.last) b.is)
+pub begun_last : (order : Order) (old new : NodeState) (outcome : Outcome) → Begins order old (Ok outcome) new → IsSome new.last
+begun_last order old new (Plan total) b = there new.last _ (ap (λ (n : NodeState). n.last) b.is)
+begun_last order old new (Short wanted allowed) b = there new.last _ (ap (λ (n : NodeState). n.last) b.is)

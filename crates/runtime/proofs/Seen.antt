@@ -25,8 +25,8 @@ module _ (finds : List ℕ → Option (List ℕ) → Type 0) where
   by_command told old (ask.state id) text new h = h
   by_command told old ask.list text new h = h
   by_command told old (ask.sets id) text new h = h
-  by_command told old ask.rebalance text new h = h
-  by_command told old ask.begin text new h = h
+  by_command told old (ask.rebalance direct) text new h = h
+  by_command told old (ask.begin direct) text new h = h
   by_command told old ask.step text new h = h
   by_command told old ask.phase text new h = h
   by_command told old ask.certificate text new h = h

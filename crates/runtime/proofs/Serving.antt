@@ -18,7 +18,7 @@ use Rattle.script.specs.Lines.{line_kept, words_of}
 use Rattle.script.specs.Requests.{Wanted, nothing, bad, asks, request_of}
 use Rattle.script.specs.Runs.{AnswersLine, AnswersRequest}
 use Rattle.script.specs.declared.line_buffer.TheConstants.{MOST_LINE_BYTES}
-use Rattle.runtime.specs.Answered.{AnsweredBy}
+use Rattle.runtime.specs.Answered.{AnsweredBy, order_of}
 use Rattle.runtime.specs.Found.{IsSeen}
 use Rattle.runtime.specs.ScriptLaws.{Sees, IsFor, RequestMakes, LineMakes, LinesMake, lines_are_calls, runs_cut}
 use Rattle.runtime.proofs.Seen.{by_lines as looks_are_told}
@@ -102,8 +102,8 @@ by_command sees (ask.delete i) event id bundle config r (answer, is) placing = a
 by_command sees (ask.state i) event id bundle config r (answer, is) placing = absurd (other_event id bundle config r event placing (ap is_placing is))
 by_command sees ask.list event id bundle config r (answer, is) placing = absurd (other_event id bundle config r event placing (ap is_placing is))
 by_command sees (ask.sets i) event id bundle config r (answer, is) placing = absurd (other_event id bundle config r event placing (ap is_placing is))
-by_command sees ask.rebalance event id bundle config r (answer, is) placing = absurd (other_event id bundle config r event placing (ap is_placing is))
-by_command sees ask.begin event id bundle config r (answer, is) placing = absurd (other_event id bundle config r event placing (ap is_placing is))
+by_command sees (ask.rebalance direct) event id bundle config r (answer, is) placing = absurd (other_event id bundle config r event placing (ap is_placing is))
+by_command sees (ask.begin direct) event id bundle config r (answer, is) placing = absurd (other_event id bundle config r event placing (ap is_placing is))
 by_command sees ask.step event id bundle config r (answer, is) placing = absurd (other_event id bundle config r event placing (ap is_placing is))
 by_command sees ask.phase event id bundle config r (answer, is) placing = absurd (other_event id bundle config r event placing (ap is_placing is))
 by_command sees ask.certificate event id bundle config r (answer, is) placing = absurd (other_event id bundle config r event placing (ap is_placing is))
@@ -165,9 +165,9 @@ all_more P Q follows [] h = h
 all_more P Q follows (x ∷ xs) h = (follows x h.0, all_more P Q follows xs h.1)
 
 pub scripts_serve_configs : (finds : Sees) → RunsRebalance → RunsServeConfigs → ScriptsServeConfigs finds
-scripts_serve_configs finds leaves serves first last before after line text node none whole asked run =
+scripts_serve_configs finds leaves serves direct first last before after line text node none whole asked run =
     let c = runs_cut (IsSeen finds) first last before after line text run in
-    let answered : AnsweredBy finds c.0 ask.rebalance c.3 c.1 =
+    let answered : AnsweredBy finds c.0 (ask.rebalance direct) c.3 c.1 =
     subst (λ wanted. AnswersRequest (AnsweredBy finds) c.0 wanted c.3 c.1) asked (subst (λ read. AnswersLine (AnsweredBy finds) c.0 read c.3 c.1) whole c.6) in
     let calls = lines_are_calls (IsSeen finds) first c.0 before c.2 c.5 in
     record {
@@ -178,7 +178,7 @@ scripts_serve_configs finds leaves serves first last before after line text node
         earlier = c.2;
         later = c.4;
         run = looks_are_told finds first c.0 before c.2 c.5;
-        leaves = leaves first.node calls.events c.0.node answered.0.0 c.1.node node calls.run answered.0.1;
+        leaves = leaves first.node calls.events (order_of direct) c.0.node answered.0.0 c.1.node node calls.run answered.0.1;
         rest = looks_are_told finds c.1 last after c.4 c.7;
         told = c.8 ∙ ap (λ answer. c.2 ++ (answer ++ c.4)) answered.0.2;
       };
@@ -189,5 +189,5 @@ scripts_serve_configs finds leaves serves first last before after line text node
           (λ e a. let l = asked_in (IsSeen finds first.told) calls.events e a.config first.node before c.2 c.0.node calls.made a.asked in
           record { line = l.line; config = a.config; said = a.said; there = l.there; whole = l.whole; asked = l.asked; found = l.found; last = a.asked; said_so = a.said_so; has = a.has })
           c.1.node.containers
-          (serves first.node calls.events c.0.node total c.1.node node none calls.run (subst (λ r. Rebalances c.0.node r c.1.node) is answered.0.1));
+          (serves first.node calls.events (order_of direct) c.0.node total c.1.node node none calls.run (subst (λ r. Rebalances (order_of direct) c.0.node r c.1.node) is answered.0.1));
     }

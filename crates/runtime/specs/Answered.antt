@@ -1,5 +1,5 @@
 -- What a runtime may answer each command of a script, and what it is then.
-use Rattle.std.specs.Prelude.{◌≡◌, ◌≢◌, ◌⊎◌, ℕ, List, ◌++◌, Option, Some, None, Result, Ok, Err, codes, String, string_bytes}
+use Rattle.std.specs.Prelude.{◌≡◌, ◌≢◌, ◌⊎◌, ℕ, Bool, true, false, List, ◌++◌, Option, Some, None, Result, Ok, Err, codes, String, string_bytes}
 use Rattle.std.specs.FinSet as set
 use Rattle.std.specs.declared.alloc.Global.{Global}
 use Rattle.cpu_set.specs.Ids.{Ids}
@@ -14,6 +14,8 @@ use Rattle.kernel_model.specs.declared.fault.KernelFault.{KernelFault}
 use Rattle.kernel_model.specs.Cases.{Forks, Exits, GoesOffline, ComesOnline}
 use Rattle.node.specs.declared.fault.NodeFault.{NodeFault}
 use Rattle.node.specs.declared.sets.Sets.{Sets}
+use Rattle.node.specs.declared.order.Order.{Order}
+use Rattle.node.specs.declared.order.Order.TheVariants.{InTurn, Directly}
 use Rattle.node.specs.declared.outcome.Outcome.{Outcome}
 use Rattle.node.specs.NodeState.{NodeState}
 use Rattle.node.specs.Calls.{Creates, Adopts, Starts, Kills, Deletes}
@@ -125,11 +127,16 @@ abbrev pub AnswersOnline : NodeState → ℕ → List ℕ → NodeState → Type
 AnswersOnline old cpu text new = (r : Result (Unit {0}) KernelFault)
     × ComesOnline old.kernel cpu r new.kernel × InKernel old new × (text ≡ answer_text done_line of_kernel_fault r)
 
-abbrev pub AnswersRebalance : NodeState → List ℕ → NodeState → Type 0
-AnswersRebalance old text new = (r : Result Outcome (OrMemory NodeFault)) × Rebalances old r new × (text ≡ answer_text (outcome_text new) of_either r)
+-- the order of a hand-over, by whether it is asked for directly
+abbrev pub order_of : Bool → Order
+order_of false = InTurn
+order_of true = Directly
 
-abbrev pub AnswersBegin : NodeState → List ℕ → NodeState → Type 0
-AnswersBegin old text new = (r : Result Outcome (OrMemory NodeFault)) × Begins old r new × (text ≡ answer_text (outcome_text new) of_either r)
+abbrev pub AnswersRebalance : Bool → NodeState → List ℕ → NodeState → Type 0
+AnswersRebalance direct old text new = (r : Result Outcome (OrMemory NodeFault)) × Rebalances (order_of direct) old r new × (text ≡ answer_text (outcome_text new) of_either r)
+
+abbrev pub AnswersBegin : Bool → NodeState → List ℕ → NodeState → Type 0
+AnswersBegin direct old text new = (r : Result Outcome (OrMemory NodeFault)) × Begins (order_of direct) old r new × (text ≡ answer_text (outcome_text new) of_either r)
 
 abbrev pub AnswersStep : NodeState → List ℕ → NodeState → Type 0
 AnswersStep old text new = (r : Result Progress NodeFault) × StepsOn old r new × (text ≡ answer_text progress_line Node r)
@@ -149,8 +156,8 @@ AnswersBy finds old (ask.delete id) text new = AnswersDelete old id text new
 AnswersBy finds old (ask.state id) text new = AnswersState old id text new
 AnswersBy finds old ask.list text new = AnswersList old text new
 AnswersBy finds old (ask.sets id) text new = AnswersSets old id text new
-AnswersBy finds old ask.rebalance text new = AnswersRebalance old text new
-AnswersBy finds old ask.begin text new = AnswersBegin old text new
+AnswersBy finds old (ask.rebalance direct) text new = AnswersRebalance direct old text new
+AnswersBy finds old (ask.begin direct) text new = AnswersBegin direct old text new
 AnswersBy finds old ask.step text new = AnswersStep old text new
 AnswersBy finds old ask.phase text new = AnswersPhase old text new
 AnswersBy finds old ask.certificate text new = AnswersCertificate old text new

@@ -25,11 +25,11 @@ use Rattle.runtime.specs.ScriptLaws.{AreCalls}
 -- about. Of a shortage it is how many are asked for and how many are allowed. A rebalance whose write failed has worked out
 -- another and told none.
 abbrev pub told_with : Option Verdict → (old : NodeState) (event : Event) (new : NodeState) → Step old event new → Option Verdict
-told_with told old (Rebalance (Ok (Plan total))) new step = Some (proves.Moves (total / old.machine.threads) (moved old (effective_sets new.kernel new.containers)))
-told_with told old (Rebalance (Ok (Short wanted allowed))) new step = Some (proves.Short (wanted / old.machine.threads) (set.len allowed / old.machine.threads))
-told_with told old (Rebalance (Err (Fault (Kernel fault)))) new step = None
-told_with told old (Begin (Ok (Plan total))) new step = Some (proves.Moves (total / old.machine.threads) (moved old (as_cpus old.machine step.plan)))
-told_with told old (Begin (Ok (Short wanted allowed))) new step = Some (proves.Short (wanted / old.machine.threads) (set.len allowed / old.machine.threads))
+told_with told old (Rebalance order (Ok (Plan total))) new step = Some (proves.Moves (total / old.machine.threads) (moved old (effective_sets new.kernel new.containers)))
+told_with told old (Rebalance order (Ok (Short wanted allowed))) new step = Some (proves.Short (wanted / old.machine.threads) (set.len allowed / old.machine.threads))
+told_with told old (Rebalance order (Err (Fault (Kernel fault)))) new step = None
+told_with told old (Begin order (Ok (Plan total))) new step = Some (proves.Moves (total / old.machine.threads) (moved old (as_cpus old.machine step.plan)))
+told_with told old (Begin order (Ok (Short wanted allowed))) new step = Some (proves.Short (wanted / old.machine.threads) (set.len allowed / old.machine.threads))
 told_with told old event new step = told
 
 -- the verdict on what many calls and events told last

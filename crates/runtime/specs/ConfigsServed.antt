@@ -1,5 +1,5 @@
 -- What the container of a bundle has once a script was answered a plan: the headline, by the script's lines and the bundles' bytes.
-use Rattle.std.specs.Prelude.{◌≡◌, ◌⊎◌, ℕ, true, List, [], ◌∷◌, ◌++◌, Some, Ok}
+use Rattle.std.specs.Prelude.{◌≡◌, ◌⊎◌, ℕ, Bool, true, List, [], ◌∷◌, ◌++◌, Some, Ok}
 use Rattle.std.specs.List.{Contains, AllByRecursion}
 use Rattle.cpu_set.specs.Ids.{Ids}
 use Rattle.kernel_model.specs.KernelState.{KernelState}
@@ -46,14 +46,14 @@ pub record HasItsConfig (sees : Sees) (lines : List (List ℕ)) (events : List E
 
 -- a rebalance in the midst of a script, which leaves what the headline says; the lines before it make these calls. After a
 -- plan each container has what the config asks for that was read for it last, as looks at bundles may find it.
-pub record IsServing (finds : Sees) (first : RuntimeState) (before after : List (List ℕ)) (text : List ℕ) (last : RuntimeState) : Type 0 where
-  pub its : IsRebalanceOf first before after text last
+pub record IsServing (finds : Sees) (direct : Bool) (first : RuntimeState) (before after : List (List ℕ)) (text : List ℕ) (last : RuntimeState) : Type 0 where
+  pub its : IsRebalanceOf direct first before after text last
   pub calls : AreCalls (IsSeen finds) first before its.earlier its.old
   pub serves : (total : ℕ) → its.outcome ≡ Ok (Plan total)
       → AllByRecursion (HasItsConfig (IsSeen finds first.told) before calls.events its.new.node.machine its.new.node.kernel its.new.node.pool) its.new.node.containers
 
 -- each line of a script that asks for a rebalance is such, from a node of no container on
 abbrev pub ScriptsServeConfigs : Sees → Type 0
-ScriptsServeConfigs finds = (first last : RuntimeState) (before after : List (List ℕ)) (line text : List ℕ) → IsNode first.node → first.node.containers ≡ []
-    → line_kept line ≡ Some line → request_of (words_of line) ≡ asks ask.rebalance → Runs (AnsweredBy finds) first (before ++ line ∷ after) text last
-    → IsServing finds first before after text last
+ScriptsServeConfigs finds = (direct : Bool) (first last : RuntimeState) (before after : List (List ℕ)) (line text : List ℕ) → IsNode first.node → first.node.containers ≡ []
+    → line_kept line ≡ Some line → request_of (words_of line) ≡ asks (ask.rebalance direct) → Runs (AnsweredBy finds) first (before ++ line ∷ after) text last
+    → IsServing finds direct first before after text last

@@ -10,3 +10,4 @@ pub mod ScriptLaws
 pub mod ConfigsServed
 pub mod CertificatesTold
 pub mod MirroredNodes
+pub mod Partition

@@ -1,5 +1,5 @@
 -- A node whose kernel's writes are made in the files of a cgroup tree.
-use Rattle.std.specs.Prelude.{◌≡◌, ◌⊎◌, Bool, ℕ, List, [], map}
+use Rattle.std.specs.Prelude.{◌≡◌, ◌⊎◌, ℕ, List, [], map}
 use Rattle.cpu_set.specs.Ids.{Ids}
 use Rattle.faults.specs.declared.OrMemory.{OrMemory}
 use Rattle.faults.specs.declared.OrMemory.TheVariants.{Memory}
@@ -8,6 +8,7 @@ use Rattle.cgroup_tree.specs.Asked.{Asked, Opening}
 use Rattle.cgroup_tree.specs.Events.{IsMirrored}
 use Rattle.cgroup_tree.specs.Site.{Site}
 use Rattle.cgroup_tree.specs.Stands.{FilesStand}
+use Rattle.cgroup_tree.specs.declared.RootOptions.{RootOptions}
 use Rattle.kernel_model.specs.declared.KernelFault.{KernelFault}
 use Rattle.kernel_model.specs.KernelState.{KernelState}
 use Rattle.machine.specs.Layout.{Layout}
@@ -18,8 +19,8 @@ use Rattle.runtime.specs.Boots.{IsKernelOf, beginning_of}
 
 -- where the writes of this machine's kernel are made: below this root, where these nodes have memory, in a tree that is
 -- opened so
-abbrev pub site_of : Layout → List ℕ → Ids → Bool → Site
-site_of m root memory adopt = record { root = root; memory = memory; adopt = adopt; first = beginning_of m }
+abbrev pub site_of : Layout → List ℕ → Ids → RootOptions → Site
+site_of m root memory options = record { root = root; memory = memory; adopt = options.adopt; partition = options.partition; first = beginning_of m }
 
 -- all that was asked of the files, which were opened so, is what the calls of the node's kernel stand for. They stand in
 -- their order, from its beginning on. If the files do what they answer, each group's have what it requests, and that is safe.

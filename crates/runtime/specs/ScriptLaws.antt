@@ -1,5 +1,5 @@
 -- What a script does to the node: a list of its calls and events.
-use Rattle.std.proofs.Common.{◌≡◌, ◌⊎◌, ℕ, ◌≤◌, List, [], ◌∷◌, ◌++◌, length, length-append, Option, Some, None, Result, Ok, Err, inl, inr, codes, get_or, refl, sym, ap, subst, ◌∙◌, arith, append_assoc}
+use Rattle.std.proofs.Common.{◌≡◌, ◌⊎◌, ℕ, ◌≤◌, Bool, List, [], ◌∷◌, ◌++◌, length, length-append, Option, Some, None, Result, Ok, Err, inl, inr, codes, get_or, refl, sym, ap, subst, ◌∙◌, arith, append_assoc}
 use Rattle.faults.specs.declared.or_memory.OrMemory.{OrMemory}
 use Rattle.std.specs.Prelude.{String}
 use Rattle.cpu_set.specs.Ids.{Ids}
@@ -30,7 +30,7 @@ use Rattle.script.specs.Lines.{line_kept, words_of}
 use Rattle.script.specs.Requests.{Wanted, nothing, bad, asks, request_of}
 use Rattle.script.specs.Runs.{AnswersLine, AnswersRequest, Runs}
 use Rattle.runtime.specs.AnswerTexts.{of_either, of_kernel, of_kernel_fault, answer_text, done_line, pid_line, set_text, sets_line, listing_text, phase_line}
-use Rattle.runtime.specs.Answered.{Answered, AnsweredWhere, AnswersBy, NamesCpus, state_line}
+use Rattle.runtime.specs.Answered.{Answered, AnsweredWhere, AnswersBy, NamesCpus, order_of, state_line}
 use Rattle.runtime.specs.Found.{IsFound}
 use Rattle.runtime.specs.OutcomeTexts.{outcome_text, progress_line}
 use Rattle.runtime.specs.RefusalLine.{refusal_line}
@@ -55,8 +55,8 @@ event_text new (Update id bundle config answer) = answer_text done_line of_eithe
 event_text new (Start id answer) = answer_text done_line Node answer
 event_text new (Kill id signal answer) = answer_text done_line Node answer
 event_text new (Delete id answer) = answer_text done_line Node answer
-event_text new (Rebalance answer) = answer_text (outcome_text new) of_either answer
-event_text new (Begin answer) = answer_text (outcome_text new) of_either answer
+event_text new (Rebalance order answer) = answer_text (outcome_text new) of_either answer
+event_text new (Begin order answer) = answer_text (outcome_text new) of_either answer
 event_text new (StepOn answer) = answer_text progress_line Node answer
 event_text new (Ask question) = question_text question
 event_text new (Fork parent answer) = answer_text pid_line of_kernel answer
@@ -84,8 +84,8 @@ IsFor sees (ask.delete id) event = (answer : Result (Unit {0}) NodeFault) × (ev
 IsFor sees (ask.state id) event = (answer : Result (String Global) (OrMemory NodeFault)) × (event ≡ Ask (State id answer))
 IsFor sees ask.list event = (answer : List (List ℕ × Status)) × (event ≡ Ask (ListAll answer))
 IsFor sees (ask.sets id) event = (answer : Result Sets NodeFault) × (event ≡ Ask (SetsOf id answer))
-IsFor sees ask.rebalance event = (answer : Result Outcome (OrMemory NodeFault)) × (event ≡ Rebalance answer)
-IsFor sees ask.begin event = (answer : Result Outcome (OrMemory NodeFault)) × (event ≡ Begin answer)
+IsFor sees (ask.rebalance direct) event = (answer : Result Outcome (OrMemory NodeFault)) × (event ≡ Rebalance (order_of direct) answer)
+IsFor sees (ask.begin direct) event = (answer : Result Outcome (OrMemory NodeFault)) × (event ≡ Begin (order_of direct) answer)
 IsFor sees ask.step event = (answer : Result Progress NodeFault) × (event ≡ StepOn answer)
 IsFor sees ask.phase event = (answer : Phase) × (event ≡ Ask (PhaseIs answer))
 IsFor sees ask.certificate event = (answer : Result Certificate NodeFault) × (event ≡ Ask (ShowCertificate answer))
@@ -163,52 +163,52 @@ LinesAreCalls sees = (old new : RuntimeState) (lines : List (List ℕ)) (text : 
 -- whatever lines of a script over a node were answered before, a rebalance leaves what the headline says of an outcome or a
 -- refusal. With it stand what the certificate tells and what a failed write leaves. Its answer is the text of that.
 abbrev pub RebalancesAreTold : Type 0
-RebalancesAreTold = (first old new : RuntimeState) (lines : List (List ℕ)) (text answer : List ℕ)
-    → IsNode first.node → Runs Answered first lines text old → Answered old ask.rebalance answer new
-    → (r : Result Outcome (OrMemory NodeFault)) × RebalanceLeaves old.node r new.node × (answer ≡ answer_text (outcome_text new.node) of_either r)
+RebalancesAreTold = (direct : Bool) (first old new : RuntimeState) (lines : List (List ℕ)) (text answer : List ℕ)
+    → IsNode first.node → Runs Answered first lines text old → Answered old (ask.rebalance direct) answer new
+    → (r : Result Outcome (OrMemory NodeFault)) × RebalanceLeaves (order_of direct) old.node r new.node × (answer ≡ answer_text (outcome_text new.node) of_either r)
 
 -- an answer that begins with `plan total` is the text of a plan, and these hold of it
 abbrev pub PlansAreTold : Type 0
-PlansAreTold = (first old new : RuntimeState) (lines : List (List ℕ)) (text more : List ℕ)
-    → IsNode first.node → Runs Answered first lines text old → Answered old ask.rebalance (codes "plan total " ++ more) new
-    → (total : ℕ) × RebalanceLeaves old.node (Ok (Plan total)) new.node × (codes "plan total " ++ more ≡ outcome_text new.node (Plan total))
+PlansAreTold = (direct : Bool) (first old new : RuntimeState) (lines : List (List ℕ)) (text more : List ℕ)
+    → IsNode first.node → Runs Answered first lines text old → Answered old (ask.rebalance direct) (codes "plan total " ++ more) new
+    → (total : ℕ) × RebalanceLeaves (order_of direct) old.node (Ok (Plan total)) new.node × (codes "plan total " ++ more ≡ outcome_text new.node (Plan total))
 
 -- an answer that begins with `short demand` is the text of a shortage, and they hold of it
 abbrev pub ShortagesAreTold : Type 0
-ShortagesAreTold = (first old new : RuntimeState) (lines : List (List ℕ)) (text more : List ℕ)
-    → IsNode first.node → Runs Answered first lines text old → Answered old ask.rebalance (codes "short demand " ++ more) new
-    → (wanted : ℕ) × (allowed : Ids) × RebalanceLeaves old.node (Ok (Short wanted allowed)) new.node × (codes "short demand " ++ more ≡ outcome_text new.node (Short wanted allowed))
+ShortagesAreTold = (direct : Bool) (first old new : RuntimeState) (lines : List (List ℕ)) (text more : List ℕ)
+    → IsNode first.node → Runs Answered first lines text old → Answered old (ask.rebalance direct) (codes "short demand " ++ more) new
+    → (wanted : ℕ) × (allowed : Ids) × RebalanceLeaves (order_of direct) old.node (Ok (Short wanted allowed)) new.node × (codes "short demand " ++ more ≡ outcome_text new.node (Short wanted allowed))
 
 -- an answer to `begin` that begins with `plan total` is the text of the best plan that the containers could have, whose
 -- hand-over is open
 abbrev pub BegunAreTold : Type 0
-BegunAreTold = (old new : RuntimeState) (more : List ℕ) → Answered old ask.begin (codes "plan total " ++ more) new
-    → (total : ℕ) × Begun old.node total new.node × (codes "plan total " ++ more ≡ outcome_text new.node (Plan total))
+BegunAreTold = (direct : Bool) (old new : RuntimeState) (more : List ℕ) → Answered old (ask.begin direct) (codes "plan total " ++ more) new
+    → (total : ℕ) × Begun (order_of direct) old.node total new.node × (codes "plan total " ++ more ≡ outcome_text new.node (Plan total))
 
 -- an answer to `begin` that begins with `short demand` is the text of a shortage. The certificate names live containers that
 -- ask for CPUs of their own.
 abbrev pub BegunShortAreTold : Type 0
-BegunShortAreTold = (old new : RuntimeState) (more : List ℕ) → IsNode old.node → Answered old ask.begin (codes "short demand " ++ more) new
+BegunShortAreTold = (direct : Bool) (old new : RuntimeState) (more : List ℕ) → IsNode old.node → Answered old (ask.begin direct) (codes "short demand " ++ more) new
     → (wanted : ℕ) × (allowed : Ids) × IsShort old.node wanted allowed new.node × TellsShortage old.node wanted allowed new.node × (codes "short demand " ++ more ≡ outcome_text new.node (Short wanted allowed))
 
 -- a rebalance in the midst of a script: what was answered before it and behind it. It left what the headline says, with what
 -- the certificate tells and what a failed write leaves.
-pub record IsRebalanceOf (first : RuntimeState) (before after : List (List ℕ)) (text : List ℕ) (last : RuntimeState) : Type 0 where
+pub record IsRebalanceOf (direct : Bool) (first : RuntimeState) (before after : List (List ℕ)) (text : List ℕ) (last : RuntimeState) : Type 0 where
   pub old : RuntimeState
   pub new : RuntimeState
   pub outcome : Result Outcome (OrMemory NodeFault)
   pub earlier : List ℕ
   pub later : List ℕ
   pub run : Runs Answered first before earlier old
-  pub leaves : RebalanceLeaves old.node outcome new.node
+  pub leaves : RebalanceLeaves (order_of direct) old.node outcome new.node
   pub rest : Runs Answered new after later last
   pub told : text ≡ earlier ++ (answer_text (outcome_text new.node) of_either outcome ++ later)
 
 -- each line of a whole script that asks for a rebalance is such
 abbrev pub ScriptsRebalance : Type 0
-ScriptsRebalance = (first last : RuntimeState) (before after : List (List ℕ)) (line text : List ℕ) → IsNode first.node
-    → line_kept line ≡ Some line → request_of (words_of line) ≡ asks ask.rebalance → Runs Answered first (before ++ line ∷ after) text last
-    → IsRebalanceOf first before after text last
+ScriptsRebalance = (direct : Bool) (first last : RuntimeState) (before after : List (List ℕ)) (line text : List ℕ) → IsNode first.node
+    → line_kept line ≡ Some line → request_of (words_of line) ≡ asks (ask.rebalance direct) → Runs Answered first (before ++ line ∷ after) text last
+    → IsRebalanceOf direct first before after text last
 
 Run-append : (old mid new : NodeState) (first later : List Event) → Run old first mid → Run mid later new → Run old (first ++ later) new
 Run-append old mid new [] later e run = subst (λ n. Run n later new) e run
@@ -233,8 +233,8 @@ is_call sees old (ask.delete id) text new (r, h, e) = inl (record { event = Dele
 is_call sees old (ask.state id) text new (r, h, e, same) = inl (record { event = Ask (State id r); its = (r, refl); step = (h, same); answer = e })
 is_call sees old ask.list text new h = inl (record { event = Ask (ListAll (listing old)); its = (listing old, refl); step = (refl, h.1); answer = h.0 })
 is_call sees old (ask.sets id) text new (r, h, e, same) = inl (record { event = Ask (SetsOf id r); its = (r, refl); step = (h, same); answer = e })
-is_call sees old ask.rebalance text new (r, h, e) = inl (record { event = Rebalance r; its = (r, refl); step = h; answer = e })
-is_call sees old ask.begin text new (r, h, e) = inl (record { event = Begin r; its = (r, refl); step = h; answer = e })
+is_call sees old (ask.rebalance direct) text new (r, h, e) = inl (record { event = Rebalance (order_of direct) r; its = (r, refl); step = h; answer = e })
+is_call sees old (ask.begin direct) text new (r, h, e) = inl (record { event = Begin (order_of direct) r; its = (r, refl); step = h; answer = e })
 is_call sees old ask.step text new (r, h, e) = inl (record { event = StepOn r; its = (r, refl); step = h; answer = e })
 is_call sees old ask.phase text new h = inl (record { event = Ask (PhaseIs old.phase); its = (old.phase, refl); step = (refl, h.1); answer = h.0 })
 is_call sees old ask.certificate text new (r, h, e, same) = inl (record { event = Ask (ShowCertificate r); its = (r, refl); step = (h, same); answer = e })
@@ -294,52 +294,52 @@ lines_are_calls sees old new (line ∷ lines) text (mid, first, more, answered, 
     }
 
 pub rebalances_are_told : RunsRebalance → RebalancesAreTold
-rebalances_are_told leaves first old new lines text answer node run ((r, h, e), same) =
+rebalances_are_told leaves direct first old new lines text answer node run ((r, h, e), same) =
     let before = lines_are_calls IsFound first old lines text run in
-    (r, leaves first.node before.events old.node r new.node node before.run h, e)
+    (r, leaves first.node before.events (order_of direct) old.node r new.node node before.run h, e)
 
 -- no other text begins so
-plan_told : (old new : NodeState) (more : List ℕ) (r : Result Outcome (OrMemory NodeFault)) → RebalanceLeaves old r new
-    → codes "plan total " ++ more ≡ answer_text (outcome_text new) of_either r → (total : ℕ) × RebalanceLeaves old (Ok (Plan total)) new × (codes "plan total " ++ more ≡ outcome_text new (Plan total))
-plan_told old new more (Ok (Plan total)) h e = (total, h, e)
-plan_told old new more (Ok (Short wanted allowed)) h e = absurd (let same : 112 ≡ 115 = ap (λ t. get_or t 0 0) e in let f : ⊥ = omega (arith, same) in f)
-plan_told old new more (Err error) h e = absurd (let same : 112 ≡ 114 = ap (λ t. get_or t 0 0) e in let f : ⊥ = omega (arith, same) in f)
+plan_told : (direct : Bool) (old new : NodeState) (more : List ℕ) (r : Result Outcome (OrMemory NodeFault)) → RebalanceLeaves (order_of direct) old r new
+    → codes "plan total " ++ more ≡ answer_text (outcome_text new) of_either r → (total : ℕ) × RebalanceLeaves (order_of direct) old (Ok (Plan total)) new × (codes "plan total " ++ more ≡ outcome_text new (Plan total))
+plan_told direct old new more (Ok (Plan total)) h e = (total, h, e)
+plan_told direct old new more (Ok (Short wanted allowed)) h e = absurd (let same : 112 ≡ 115 = ap (λ t. get_or t 0 0) e in let f : ⊥ = omega (arith, same) in f)
+plan_told direct old new more (Err error) h e = absurd (let same : 112 ≡ 114 = ap (λ t. get_or t 0 0) e in let f : ⊥ = omega (arith, same) in f)
 
 pub plans_are_told : RunsRebalance → PlansAreTold
-plans_are_told leaves first old new lines text more node run answered =
-    let told = rebalances_are_told leaves first old new lines text (codes "plan total " ++ more) node run answered in
-    plan_told old.node new.node more told.0 told.1 told.2
+plans_are_told leaves direct first old new lines text more node run answered =
+    let told = rebalances_are_told leaves direct first old new lines text (codes "plan total " ++ more) node run answered in
+    plan_told direct old.node new.node more told.0 told.1 told.2
 
-begun_told : (old new : NodeState) (more : List ℕ) (r : Result Outcome (OrMemory NodeFault)) → Begins old r new → codes "plan total " ++ more ≡ answer_text (outcome_text new) of_either r
-    → (total : ℕ) × Begun old total new × (codes "plan total " ++ more ≡ outcome_text new (Plan total))
-begun_told old new more (Ok (Plan total)) b e = (total, b, e)
-begun_told old new more (Ok (Short wanted allowed)) b e = absurd (let same : 112 ≡ 115 = ap (λ t. get_or t 0 0) e in let f : ⊥ = omega (arith, same) in f)
-begun_told old new more (Err error) b e = absurd (let same : 112 ≡ 114 = ap (λ t. get_or t 0 0) e in let f : ⊥ = omega (arith, same) in f)
+begun_told : (direct : Bool) (old new : NodeState) (more : List ℕ) (r : Result Outcome (OrMemory NodeFault)) → Begins (order_of direct) old r new → codes "plan total " ++ more ≡ answer_text (outcome_text new) of_either r
+    → (total : ℕ) × Begun (order_of direct) old total new × (codes "plan total " ++ more ≡ outcome_text new (Plan total))
+begun_told direct old new more (Ok (Plan total)) b e = (total, b, e)
+begun_told direct old new more (Ok (Short wanted allowed)) b e = absurd (let same : 112 ≡ 115 = ap (λ t. get_or t 0 0) e in let f : ⊥ = omega (arith, same) in f)
+begun_told direct old new more (Err error) b e = absurd (let same : 112 ≡ 114 = ap (λ t. get_or t 0 0) e in let f : ⊥ = omega (arith, same) in f)
 
 pub begun_are_told : BegunAreTold
-begun_are_told old new more ((r, b, e), same) = begun_told old.node new.node more r b e
+begun_are_told direct old new more ((r, b, e), same) = begun_told direct old.node new.node more r b e
 
-begun_short_told : ShortStands → (old new : NodeState) (more : List ℕ) (r : Result Outcome (OrMemory NodeFault)) → IsNode old → Begins old r new → codes "short demand " ++ more ≡ answer_text (outcome_text new) of_either r
+begun_short_told : ShortStands → (direct : Bool) (old new : NodeState) (more : List ℕ) (r : Result Outcome (OrMemory NodeFault)) → IsNode old → Begins (order_of direct) old r new → codes "short demand " ++ more ≡ answer_text (outcome_text new) of_either r
     → (wanted : ℕ) × (allowed : Ids) × IsShort old wanted allowed new × TellsShortage old wanted allowed new × (codes "short demand " ++ more ≡ outcome_text new (Short wanted allowed))
-begun_short_told stands old new more (Ok (Plan total)) node b e = absurd (let same : 115 ≡ 112 = ap (λ t. get_or t 0 0) e in let f : ⊥ = omega (arith, same) in f)
-begun_short_told stands old new more (Ok (Short wanted allowed)) node b e =
+begun_short_told stands direct old new more (Ok (Plan total)) node b e = absurd (let same : 115 ≡ 112 = ap (λ t. get_or t 0 0) e in let f : ⊥ = omega (arith, same) in f)
+begun_short_told stands direct old new more (Ok (Short wanted allowed)) node b e =
     let short = stands old wanted allowed new node b in (wanted, allowed, short.0, short.1, e)
-begun_short_told stands old new more (Err error) node b e = absurd (let same : 115 ≡ 114 = ap (λ t. get_or t 0 0) e in let f : ⊥ = omega (arith, same) in f)
+begun_short_told stands direct old new more (Err error) node b e = absurd (let same : 115 ≡ 114 = ap (λ t. get_or t 0 0) e in let f : ⊥ = omega (arith, same) in f)
 
 pub begun_short_are_told : ShortStands → BegunShortAreTold
-begun_short_are_told stands old new more node ((r, b, e), same) = begun_short_told stands old.node new.node more r node b e
+begun_short_are_told stands direct old new more node ((r, b, e), same) = begun_short_told stands direct old.node new.node more r node b e
 
-short_told : (old new : NodeState) (more : List ℕ) (r : Result Outcome (OrMemory NodeFault)) → RebalanceLeaves old r new
+short_told : (direct : Bool) (old new : NodeState) (more : List ℕ) (r : Result Outcome (OrMemory NodeFault)) → RebalanceLeaves (order_of direct) old r new
     → codes "short demand " ++ more ≡ answer_text (outcome_text new) of_either r
-    → (wanted : ℕ) × (allowed : Ids) × RebalanceLeaves old (Ok (Short wanted allowed)) new × (codes "short demand " ++ more ≡ outcome_text new (Short wanted allowed))
-short_told old new more (Ok (Plan total)) h e = absurd (let same : 115 ≡ 112 = ap (λ t. get_or t 0 0) e in let f : ⊥ = omega (arith, same) in f)
-short_told old new more (Ok (Short wanted allowed)) h e = (wanted, allowed, h, e)
-short_told old new more (Err error) h e = absurd (let same : 115 ≡ 114 = ap (λ t. get_or t 0 0) e in let f : ⊥ = omega (arith, same) in f)
+    → (wanted : ℕ) × (allowed : Ids) × RebalanceLeaves (order_of direct) old (Ok (Short wanted allowed)) new × (codes "short demand " ++ more ≡ outcome_text new (Short wanted allowed))
+short_told direct old new more (Ok (Plan total)) h e = absurd (let same : 115 ≡ 112 = ap (λ t. get_or t 0 0) e in let f : ⊥ = omega (arith, same) in f)
+short_told direct old new more (Ok (Short wanted allowed)) h e = (wanted, allowed, h, e)
+short_told direct old new more (Err error) h e = absurd (let same : 115 ≡ 114 = ap (λ t. get_or t 0 0) e in let f : ⊥ = omega (arith, same) in f)
 
 pub shortages_are_told : RunsRebalance → ShortagesAreTold
-shortages_are_told leaves first old new lines text more node run answered =
-    let told = rebalances_are_told leaves first old new lines text (codes "short demand " ++ more) node run answered in
-    short_told old.node new.node more told.0 told.1 told.2
+shortages_are_told leaves direct first old new lines text more node run answered =
+    let told = rebalances_are_told leaves direct first old new lines text (codes "short demand " ++ more) node run answered in
+    short_told direct old.node new.node more told.0 told.1 told.2
 
 -- lines that were answered, cut before one of them and behind it
 pub runs_cut : (sees : Told → Sees) (old last : RuntimeState) (before after : List (List ℕ)) (line text : List ℕ)
@@ -353,11 +353,11 @@ runs_cut sees old last (other ∷ before) after line text (next, first, more, an
     (c.0, c.1, first ++ c.2, c.3, c.4, (next, first, c.2, answered, c.5, refl), c.6, c.7, e ∙ ap (λ t. first ++ t) c.8 ∙ sym (append_assoc first c.2 (c.3 ++ c.4)))
 
 pub scripts_rebalance : RunsRebalance → ScriptsRebalance
-scripts_rebalance leaves first last before after line text node whole asked run =
+scripts_rebalance leaves direct first last before after line text node whole asked run =
     let c = runs_cut IsFound first last before after line text run in
-    let answered : Answered c.0 ask.rebalance c.3 c.1 =
+    let answered : Answered c.0 (ask.rebalance direct) c.3 c.1 =
     subst (λ wanted. AnswersRequest Answered c.0 wanted c.3 c.1) asked (subst (λ read. AnswersLine Answered c.0 read c.3 c.1) whole c.6) in
-    let told = rebalances_are_told leaves first c.0 c.1 before c.2 c.3 node c.5 answered in
+    let told = rebalances_are_told leaves direct first c.0 c.1 before c.2 c.3 node c.5 answered in
     record {
       old = c.0;
       new = c.1;

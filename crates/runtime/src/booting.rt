@@ -71,12 +71,12 @@ pub fn boot_mirrored<F: GroupFiles + Drop, S: Sited>(
     machine: Machine,
     tree: OpenTree<F>,
 ) -> Result<Node<MirroredKernel<F, S>>, NotBooted<F>>
-    requires site { S.site ≡ site_of machine (string_bytes tree.root) tree.memory tree.adopt }
+    requires site { S.site ≡ site_of machine (string_bytes tree.root) tree.memory tree.options }
     requires unasked { F.asked tree.files (opening S.site) [] }
     // The same as `boot`, over a `MirroredKernel`.
     ensures boots { IfOk result (Boots machine) }
     // Its place is the one that it is told (`IsMirroredNode`, `site_of`). That is the root, the nodes that have memory,
-    // how the files are opened, and this machine's first kernel.
+    // how the tree was opened, and this machine's first kernel.
     ensures mirrored { IfOk result (λ node. IsMirroredNode F.asked S.site node) }
     // Else an allocation failed before anything was asked of the files. Or the kernel refused the node's group, with
     // this error, and all that was asked of the files is what that one call stands for (`IsNotBooted`). So a body that
@@ -95,7 +95,14 @@ pub fn boot_mirrored<F: GroupFiles + Drop, S: Sited>(
             files: tree.files,
         });
     };
-    let kernel = MirroredKernel::new(inner, tree.root, tree.memory, tree.files, room);
+    let kernel = MirroredKernel::new(
+        inner,
+        tree.root,
+        tree.memory,
+        tree.options.partition,
+        tree.files,
+        room,
+    );
     match Node::new(alloc, kernel, machine) {
         Ok(node) => {
             is_mirrored(&node);

@@ -11,6 +11,7 @@ ghost use Rattle.runtime.specs.ConfigsServed.{ScriptsServeConfigs};
 ghost use Rattle.runtime.specs.Found.{IsFound};
 ghost use Rattle.runtime.specs.LooksTold.{LooksAreTold};
 ghost use Rattle.runtime.specs.OutcomeTexts.{container_lines, first_line};
+ghost use Rattle.runtime.specs.Partition.{PartitionsKeepOthersOff};
 ghost use Rattle.runtime.specs.RefusalLine.{refusal_line};
 ghost use Rattle.runtime.specs.ScriptLaws.{BegunAreTold, BegunShortAreTold, CommandsAreCalls, LinesAreCalls};
 ghost use Rattle.runtime.specs.ScriptLaws.{PlansAreTold, RebalancesAreTold, ScriptsRebalance, ShortagesAreTold};
@@ -96,6 +97,19 @@ pub fn booted_nodes()
     node::laws::first_kernels();
     node::laws::runs();
     kernel_model::laws::runs();
+}
+
+/// While ROOT is a valid partition root, no group outside it has in effect a CPU that a container has, whatever any
+/// group requests. The kernel's rule is the premise: the groups outside are in trees of their own, whose roots have
+/// none of ROOT's CPUs. No call, path or file occurs in it. So it holds of any state of a node: after each call and
+/// event, and at each point of a hand-over.
+///
+/// It speaks of what groups have in effect. What is bound to a CPU itself, as a kernel thread or an interrupt, runs
+/// there all the same.
+pub fn partitions()
+    ensures { PartitionsKeepOthersOff }
+{
+    cgroup_tree::laws::partitions();
 }
 
 /// The first process of a modelled kernel gets the pid 2.

@@ -1,4 +1,5 @@
 //! The commands that plan, each with the answer that is written.
+ghost use Rattle.std.specs.Prelude.{true, false};
 ghost use Rattle.script.specs.Ends.{Replies};
 ghost use Rattle.runtime.specs.Answered.{AnswersBegin, AnswersCertificate, AnswersRebalance, AnswersStep};
 
@@ -12,7 +13,7 @@ use std::io::Write;
 
 /// Answers `rebalance`: the plan that was carried out or the shortage, or why there is neither.
 pub fn rebalance<K: Kernel + Drop, W: Write>(node: &mut Node<K>, w: &mut W) -> io::Result<()>
-    ensures { Replies (AnswersRebalance node.old) (W.contents w.old) (W.contents w.new) result node.new }
+    ensures { Replies (AnswersRebalance false node.old) (W.contents w.old) (W.contents w.new) result node.new }
 {
     match node.rebalance() {
         Ok(outcome) => put_outcome(&outcome, node, w),
@@ -20,11 +21,34 @@ pub fn rebalance<K: Kernel + Drop, W: Write>(node: &mut Node<K>, w: &mut W) -> i
     }
 }
 
+/// Answers `rebalance direct` as `rebalance`: the plan was carried out in the direct order.
+pub fn rebalance_directly<K: Kernel + Drop, W: Write>(
+    node: &mut Node<K>,
+    w: &mut W,
+) -> io::Result<()>
+    ensures { Replies (AnswersRebalance true node.old) (W.contents w.old) (W.contents w.new) result node.new }
+{
+    match node.rebalance_directly() {
+        Ok(outcome) => put_outcome(&outcome, node, w),
+        Err(error) => Refusal::from(error).write(w),
+    }
+}
+
 /// Answers `begin`: the plan whose hand-over begins or the shortage, or why there is neither.
 pub fn begin<K: Kernel + Drop, W: Write>(node: &mut Node<K>, w: &mut W) -> io::Result<()>
-    ensures { Replies (AnswersBegin node.old) (W.contents w.old) (W.contents w.new) result node.new }
+    ensures { Replies (AnswersBegin false node.old) (W.contents w.old) (W.contents w.new) result node.new }
 {
     match node.begin() {
+        Ok(outcome) => put_outcome(&outcome, node, w),
+        Err(error) => Refusal::from(error).write(w),
+    }
+}
+
+/// Answers `begin direct` as `begin`: the hand-over goes in the direct order.
+pub fn begin_directly<K: Kernel + Drop, W: Write>(node: &mut Node<K>, w: &mut W) -> io::Result<()>
+    ensures { Replies (AnswersBegin true node.old) (W.contents w.old) (W.contents w.new) result node.new }
+{
+    match node.begin_directly() {
         Ok(outcome) => put_outcome(&outcome, node, w),
         Err(error) => Refusal::from(error).write(w),
     }

@@ -9,7 +9,7 @@ use crate::adopting::adopt;
 use crate::bundles::Bundles;
 use crate::commands::{create, delete, kill, start};
 use crate::events::{exit, fork, offline, online};
-use crate::plans::{begin, certificate, rebalance, step};
+use crate::plans::{begin, begin_directly, certificate, rebalance, rebalance_directly, step};
 use crate::queries::{list, phase, sets, state};
 use crate::updating::update;
 use kernel_model::Kernel;
@@ -89,7 +89,9 @@ fn dispatch<K: Kernel + Drop, B: Bundles, W: Write>(
         Command::List => list(node, w),
         Command::Sets { id } => sets(node, id, w),
         Command::Rebalance => rebalance(node, w),
+        Command::RebalanceDirectly => rebalance_directly(node, w),
         Command::Begin => begin(node, w),
+        Command::BeginDirectly => begin_directly(node, w),
         Command::Step => step(node, w),
         Command::Phase => phase(node, w),
         Command::Certificate => certificate(node, w),

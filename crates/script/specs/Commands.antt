@@ -1,9 +1,9 @@
 -- The commands of a script.
-use Rattle.std.specs.Prelude.{ℕ, List}
+use Rattle.std.specs.Prelude.{ℕ, Bool, true, false, List}
 use Rattle.script.specs.declared.command.Command.{Command}
 use Rattle.script.specs.declared.command.Command.TheVariants as command
 
--- a command, its texts as their bytes
+-- a command, its texts as their bytes; of the two that plan, whether they hand over in the direct order
 pub data Asked : Type 0 where
   create : (id bundle : List ℕ) → Asked
   adopt : (id bundle cpus : List ℕ) → Asked
@@ -14,8 +14,8 @@ pub data Asked : Type 0 where
   state : (id : List ℕ) → Asked
   list : Asked
   sets : (id : List ℕ) → Asked
-  rebalance : Asked
-  begin : Asked
+  rebalance : (direct : Bool) → Asked
+  begin : (direct : Bool) → Asked
   step : Asked
   phase : Asked
   certificate : Asked
@@ -35,8 +35,10 @@ asked (command.Delete id) = delete id.now
 asked (command.State id) = state id.now
 asked command.List = list
 asked (command.Sets id) = sets id.now
-asked command.Rebalance = rebalance
-asked command.Begin = begin
+asked command.Rebalance = rebalance false
+asked command.RebalanceDirectly = rebalance true
+asked command.Begin = begin false
+asked command.BeginDirectly = begin true
 asked command.Step = step
 asked command.Phase = phase
 asked command.Certificate = certificate

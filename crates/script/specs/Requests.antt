@@ -1,6 +1,6 @@
 -- What a line asks for: its first word names a command, and the words behind it have to be as many and of the kinds
 -- that the command takes.
-use Rattle.std.specs.Prelude.{ℕ, ◌^◌, ◌&&◌, nat_lt, if◌then◌else◌, List, [], ◌∷◌, length, bytes_eq, codes, Option, Some, None, option_map}
+use Rattle.std.specs.Prelude.{ℕ, ◌^◌, ◌&&◌, true, false, nat_lt, if◌then◌else◌, List, [], ◌∷◌, length, bytes_eq, codes, Option, Some, None, option_map}
 use Rattle.std.specs.Char.{is_ascii_digit}
 use Rattle.std.specs.List.{list_all}
 use Rattle.std.specs.Option.{option_zip}
@@ -38,12 +38,17 @@ number_of word = if nat_lt 0 (length word) && list_all is_ascii_digit word then 
 abbrev pub bare_command : List ℕ → Option Asked
 bare_command name =
     if bytes_eq name (codes "list") then Some command.list
-    else if bytes_eq name (codes "rebalance") then Some command.rebalance
-    else if bytes_eq name (codes "begin") then Some command.begin
+    else if bytes_eq name (codes "rebalance") then Some (command.rebalance false)
+    else if bytes_eq name (codes "begin") then Some (command.begin false)
     else if bytes_eq name (codes "step") then Some command.step
     else if bytes_eq name (codes "phase") then Some command.phase
     else if bytes_eq name (codes "certificate") then Some command.certificate
     else None
+
+-- a command of the direct order, by the text behind its name
+abbrev pub directly : Asked → Option (List ℕ) → Option Asked
+directly command None = None
+directly command (Some text) = if bytes_eq text (codes "direct") then Some command else None
 
 -- a name, and one word behind it
 abbrev pub short_command : List ℕ → List ℕ → Option Asked
@@ -56,6 +61,8 @@ short_command name word =
     else if bytes_eq name (codes "exit") then option_map command.exit (number_of word)
     else if bytes_eq name (codes "offline") then option_map command.offline (number_of word)
     else if bytes_eq name (codes "online") then option_map command.online (number_of word)
+    else if bytes_eq name (codes "rebalance") then directly (command.rebalance true) (text_of word)
+    else if bytes_eq name (codes "begin") then directly (command.begin true) (text_of word)
     else None
 
 -- a name, and two texts behind it

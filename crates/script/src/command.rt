@@ -43,8 +43,12 @@ pub enum Command<'a> {
     },
     /// Work out a plan and move all containers onto it.
     Rebalance,
+    /// The same in the direct order, in which each container gets its CPUs as soon as nobody has them.
+    RebalanceDirectly,
     /// Work out a plan and begin to move the containers onto it.
     Begin,
+    /// The same in the direct order.
+    BeginDirectly,
     /// Make the next write of the hand-over that is underway.
     Step,
     /// Tell whether a hand-over is underway.

@@ -1,5 +1,5 @@
 //! Which lines are refused, and the limits of a script: laws over the definitions alone. Nothing here runs.
-ghost use Rattle.std.specs.Prelude.{◌≡◌, codes};
+ghost use Rattle.std.specs.Prelude.{◌≡◌, true, false, codes};
 ghost use Rattle.script.specs.Commands as command;
 ghost use Rattle.script.specs.Lines.{words_of};
 ghost use Rattle.script.specs.Requests.{request_of, nothing, bad, asks};
@@ -25,7 +25,12 @@ pub fn the_limits()
 pub fn worked()
     ensures no_words { request_of (words_of (codes "  ")) ≡ nothing }
     ensures no_command { request_of (words_of (codes "Rebalance")) ≡ bad }
-    ensures bare { request_of (words_of (codes " rebalance ")) ≡ asks command.rebalance }
+    ensures bare { request_of (words_of (codes " rebalance ")) ≡ asks (command.rebalance false) }
+    ensures direct { request_of (words_of (codes "begin direct")) ≡ asks (command.begin true) }
+    ensures direct_plan { request_of (words_of (codes "rebalance direct")) ≡ asks (command.rebalance true) }
+    ensures no_order { request_of (words_of (codes "rebalance x")) ≡ bad }
+    ensures twice_direct { request_of (words_of (codes "begin direct direct")) ≡ bad }
+    ensures no_name { request_of (words_of (codes "Begin direct")) ≡ bad }
     ensures two_texts { request_of (words_of (codes "create web images/web"))
         ≡ asks (command.create (codes "web") (codes "images/web")) }
     ensures three_texts { request_of (words_of (codes "adopt web b 2-3,6"))

@@ -3,7 +3,7 @@ ghost use Rattle.std.specs.Prelude.{◌≡◌, option_map};
 ghost use Rattle.std.specs.Option.{option_zip};
 ghost use Rattle.script.specs.Commands.{asked};
 ghost use Rattle.script.specs.Lines.{words_of};
-ghost use Rattle.script.specs.Requests.{bare_command, command_by, long_command, longest_command, request_of};
+ghost use Rattle.script.specs.Requests.{bare_command, command_by, directly, long_command, longest_command, request_of};
 ghost use Rattle.script.specs.Requests.{short_command, text_of, wanted};
 
 use crate::command::{Command, Request};
@@ -79,7 +79,20 @@ fn short_command<'a>(name: &str, word: &'a [u8]) -> Option<Command<'a>>
         "online" => Some(Command::Online {
             cpu: read_number(word)?,
         }),
+        "rebalance" => directly(Command::RebalanceDirectly, word),
+        "begin" => directly(Command::BeginDirectly, word),
         _ => None,
+    }
+}
+
+/// A command of the direct order, if the word behind its name is `direct`.
+fn directly<'a>(command: Command<'a>, word: &[u8]) -> Option<Command<'a>>
+    ensures { option_map asked result ≡ directly (asked command.entry) (text_of word.now) }
+{
+    if text(word)? == "direct" {
+        Some(command)
+    } else {
+        None
     }
 }
 

@@ -98,11 +98,14 @@ fn over<S: Sited, R: AllocGlobal + Print>(
       root = string_bytes root;
       memory = memory;
       adopt = false;
+      partition = false;
       first
           = beginning_of inner;
     } }
 {
     let room = Room::below(rt.alloc(), root.as_str())?;
-    let mut kernel = MirroredKernel::<FusedFiles<R>, S>::new(inner, root, memory, files, room);
+    let mut kernel = MirroredKernel::<FusedFiles<R>, S>::new(
+        inner, root, memory, false, files, room,
+    );
     calls::one_by_one(rt, &mut kernel, lines.as_str())
 }

@@ -14,7 +14,7 @@ returns-in-Some-clause-due g c =
     let allowed = allowed_in entries c.args.allowed.now in
     three_some (gets (is_new k reserved entries) (λ e. e.target) entries) (gets (is_mover k reserved entries) (λ e. e.target) entries) (gets (is_grower k reserved entries) (λ e. e.target) entries)
     (gets (shares k reserved entries) (shared_way k reserved entries) entries
-    ∷ gets (steps_aside k reserved entries allowed) (aside k reserved entries allowed (g.C.Cores.least_of c.args.cores.now)) entries
+    ∷ gets (steps_aside k reserved entries allowed (g.C.Cores.least_of c.args.cores.now)) (aside k reserved entries allowed (g.C.Cores.least_of c.args.cores.now)) entries
     ∷ gets (must_yield k reserved entries) (squeezed k reserved entries) entries
     ∷ gets (may_take k reserved entries) (λ e. e.target) entries ∷ []) c.in-Some.write c.in-Some.ensures
 
@@ -27,6 +27,6 @@ returns-in-None-clause-due g c =
     c.given_or_grown.ensures.due
     ∙ three_none (gets (is_new k reserved entries) (λ e. e.target) entries) (gets (is_mover k reserved entries) (λ e. e.target) entries) (gets (is_grower k reserved entries) (λ e. e.target) entries)
     (gets (shares k reserved entries) (shared_way k reserved entries) entries
-    ∷ gets (steps_aside k reserved entries allowed) (aside k reserved entries allowed (g.C.Cores.least_of c.args.cores.now)) entries
+    ∷ gets (steps_aside k reserved entries allowed (g.C.Cores.least_of c.args.cores.now)) (aside k reserved entries allowed (g.C.Cores.least_of c.args.cores.now)) entries
     ∷ gets (must_yield k reserved entries) (squeezed k reserved entries) entries
     ∷ gets (may_take k reserved entries) (λ e. e.target) entries ∷ []) c.in-None.ensures

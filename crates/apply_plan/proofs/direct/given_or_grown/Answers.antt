@@ -13,7 +13,7 @@ returns-in-Some-clause-due g c =
     let entries = c.args.entries.now in
     let allowed = allowed_in entries c.args.allowed.now in
     three_some (gets (shares k reserved entries) (shared_way k reserved entries) entries)
-    (gets (steps_aside k reserved entries allowed) (aside k reserved entries allowed (g.C.Cores.least_of c.args.cores.now)) entries)
+    (gets (steps_aside k reserved entries allowed (g.C.Cores.least_of c.args.cores.now)) (aside k reserved entries allowed (g.C.Cores.least_of c.args.cores.now)) entries)
     (gets (must_yield k reserved entries) (squeezed k reserved entries) entries)
     (gets (may_take k reserved entries) (λ e. e.target) entries ∷ []) c.in-Some.write c.in-Some.ensures
 
@@ -25,6 +25,6 @@ returns-in-None-clause-due g c =
     let allowed = allowed_in entries c.args.allowed.now in
     c.first_taking.ensures ∙ only_one (gets (may_take k reserved entries) (λ e. e.target) entries)
     ∙ three_none (gets (shares k reserved entries) (shared_way k reserved entries) entries)
-    (gets (steps_aside k reserved entries allowed) (aside k reserved entries allowed (g.C.Cores.least_of c.args.cores.now)) entries)
+    (gets (steps_aside k reserved entries allowed (g.C.Cores.least_of c.args.cores.now)) (aside k reserved entries allowed (g.C.Cores.least_of c.args.cores.now)) entries)
     (gets (must_yield k reserved entries) (squeezed k reserved entries) entries)
     (gets (may_take k reserved entries) (λ e. e.target) entries ∷ []) c.in-None.ensures

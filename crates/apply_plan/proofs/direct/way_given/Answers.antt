@@ -10,7 +10,7 @@ returns-in-Some g c =
     let reserved = c.args.reserved.now in
     let entries = c.args.entries.now in
     let allowed = allowed_in entries c.args.allowed.now in
-    ap (λ o. first_due (o ∷ gets (steps_aside k reserved entries allowed) (aside k reserved entries allowed (g.C.Cores.least_of c.args.cores.now)) entries
+    ap (λ o. first_due (o ∷ gets (steps_aside k reserved entries allowed (g.C.Cores.least_of c.args.cores.now)) (aside k reserved entries allowed (g.C.Cores.least_of c.args.cores.now)) entries
     ∷ gets (must_yield k reserved entries) (squeezed k reserved entries) entries ∷ [])) c.in-Some.ensures
 
 pub returns-in-None : goal.returns-in-None
@@ -20,5 +20,5 @@ returns-in-None g c =
     let entries = c.args.entries.now in
     let allowed = allowed_in entries c.args.allowed.now in
     c.way_of_pinned.ensures
-    ∙ ap (λ o. first_due (o ∷ gets (steps_aside k reserved entries allowed) (aside k reserved entries allowed (g.C.Cores.least_of c.args.cores.now)) entries
+    ∙ ap (λ o. first_due (o ∷ gets (steps_aside k reserved entries allowed (g.C.Cores.least_of c.args.cores.now)) (aside k reserved entries allowed (g.C.Cores.least_of c.args.cores.now)) entries
     ∷ gets (must_yield k reserved entries) (squeezed k reserved entries) entries ∷ [])) c.in-None.ensures

@@ -21,11 +21,11 @@ returns-then-gives g c =
     let allowed = allowed_in entries c.args.allowed.now in
     let least = g.C.Cores.least_of c.args.cores.now in
     let same = c.allowed_at-own.ensures ∙ sym (allowed_here entries c.args.allowed.now c.loop-place.place e c.requires.valid.groups c.loop-place-test.true c.index-entries-place.is) in
-    let passes : gives_by k reserved entries allowed c.args.giving e ≡ true =
-    sym (gives_alike k reserved entries (λ _. c.allowed_at-own.result) allowed e same c.args.giving) ∙ sym c.gives.ensures ∙ c.if-gives.true in
+    let passes : gives_by k reserved entries allowed least c.args.giving e ≡ true =
+    sym (gives_alike k reserved entries (λ _. c.allowed_at-own.result) allowed e same least c.args.giving) ∙ sym c.gives.ensures ∙ c.if-gives.true in
     ap (λ s. Some (write_of e s)) (c.gets.ensures ∙ gets_alike k reserved entries (λ _. c.allowed_at-own.result) allowed e same least c.args.giving)
     ∙ sym (ap (option_map (λ (d : Entry). write_of d (gets_by k reserved entries allowed least c.args.giving d)))
-    (sym c.loop-place.invariant ∙ found_here (gives_by k reserved entries allowed c.args.giving) entries c.loop-place.place e c.loop-place-test.true c.index-entries-place.is passes))
+    (sym c.loop-place.invariant ∙ found_here (gives_by k reserved entries allowed least c.args.giving) entries c.loop-place.place e c.loop-place-test.true c.index-entries-place.is passes))
 
 pub loop-place-preserved : goal.loop-place-preserved
 loop-place-preserved g c =
@@ -34,7 +34,8 @@ loop-place-preserved g c =
     let entries = c.args.entries.now in
     let e = c.index-entries-place.result in
     let allowed = allowed_in entries c.args.allowed.now in
+    let least = g.C.Cores.least_of c.args.cores.now in
     let same = c.allowed_at-own.ensures ∙ sym (allowed_here entries c.args.allowed.now c.loop-place.place e c.requires.valid.groups c.loop-place-test.true c.index-entries-place.is) in
-    sym (passed_over (gives_by k reserved entries allowed c.args.giving) entries c.loop-place.place e c.loop-place-test.true c.index-entries-place.is
-    (sym (gives_alike k reserved entries (λ _. c.allowed_at-own.result) allowed e same c.args.giving) ∙ sym c.gives.ensures ∙ c.if-gives.false))
+    sym (passed_over (gives_by k reserved entries allowed least c.args.giving) entries c.loop-place.place e c.loop-place-test.true c.index-entries-place.is
+    (sym (gives_alike k reserved entries (λ _. c.allowed_at-own.result) allowed e same least c.args.giving) ∙ sym c.gives.ensures ∙ c.if-gives.false))
     ∙ c.loop-place.invariant

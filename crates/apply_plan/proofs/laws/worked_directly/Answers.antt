@@ -42,6 +42,9 @@ returns-clause-done c = simp (union_none, none_union, intersection-listed, union
 pub returns-clause-squeezed : goal.returns-clause-squeezed
 returns-clause-squeezed c = simp (union_none, none_union, intersection-listed, union-listed, difference-listed, is_subset-listed, len-listed) refl
 
+pub returns-clause-half_a_core : goal.returns-clause-half_a_core
+returns-clause-half_a_core c = simp (union_none, none_union, intersection-listed, union-listed, difference-listed, is_subset-listed, len-listed) refl
+
 pub returns-clause-full : goal.returns-clause-full
 returns-clause-full c = simp (union_none, none_union, intersection-listed, union-listed, difference-listed, is_subset-listed, len-listed) refl
 

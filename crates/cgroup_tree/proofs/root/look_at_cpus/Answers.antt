@@ -26,6 +26,8 @@ returns-clause-tells g c =
       (
         c.in-Some.text.items,
         rw (c.as_str.ensures.value ∙ c.in_ok-path.ensures, c.in-Some.is) at c.in_ok-text.ensures,
+        λ is. both_ways c.is_list_of.result c.if-is_list_of.false
+            (c.is_list_of.ensures.1 (subst (λ (text : List ℕ). IsListOf text c.args.online.now) (sym c.as_slice.ensures.value) is)),
         rw (c.as_str-2.ensures.value ∙ c.in_ok-path.ensures, c.as_slice-2.ensures.value) at told.1,
       ),
       told.2,

@@ -27,6 +27,7 @@ returns-clause-tells g c =
       (
         c.in-Some.text.items,
         rw (c.as_str.ensures.value ∙ c.in_ok-path.ensures, c.in-Some.is) at c.in_ok-text.ensures,
+        λ memory have. c.in_default-nodes_in.ensures memory (subst (λ (text : List ℕ). IsListOf text memory) (sym c.as_slice.ensures.value) have.0) have.1,
         rw (c.as_str-2.ensures.value ∙ c.in_ok-path.ensures, c.as_slice-2.ensures.value, c.empty-none.ensures) at told.1,
       ),
       told.2,

@@ -11,14 +11,14 @@ pub returns-in_err-lock-clause-refused : goal.returns-in_err-lock-clause-refused
 returns-in_err-lock-clause-refused g c =
     let a = c.args in
     let p = err_from_is_err_and c.from_residual-in_err-lock.result c.from_residual-in_err-lock.ensures.1 in
-    rw (p.1, p.2) (refused (Locked a.root.now) ∷ [], lock_refused (g.T.GroupTrees.finds a.trees.now) a.root.now a.online.now a.nodes.now a.adopt c.in_err-lock.field-0.0 c.in_err-lock.ensures.looks, c.in_err-lock.ensures.asked)
+    rw (p.1, p.2) (refused (Locked a.root.now) ∷ [], lock_refused (g.T.GroupTrees.finds a.trees.now) a.root.now a.online.now a.nodes.now a.options.adopt c.in_err-lock.field-0.0 c.in_err-lock.ensures.looks, c.in_err-lock.ensures.asked)
 
 pub returns-in_err-memory-clause-answers : goal.returns-in_err-memory-clause-answers
 returns-in_err-memory-clause-answers g c =
     let a = c.args in
     let p = err_from_is_err_and c.from_residual-in_err-memory.result c.from_residual-in_err-memory.ensures.1 in
-    rw (p.1, p.2) (answer_behind (g.T.GroupTrees.finds a.trees.now) a.root.now a.online.now a.nodes.now a.adopt c.in_err-memory.field-0.0 c.in_ok-look_at_folder.ensures c.in_ok-lock.ensures.looks
-    (looks_before _ _ c.lock_root.ensures.finds a.root.now a.online.now a.nodes.now (Err c.in_err-memory.field-0.0) c.in_err-memory.ensures.looks))
+    rw (p.1, p.2) (answer_behind (g.T.GroupTrees.finds a.trees.now) a.root.now a.online.now a.nodes.now a.options.partition c.in_err-memory.field-0.0 c.in_ok-look_at_folder.ensures c.in_ok-lock.ensures.looks
+    (looks_before _ _ c.lock_root.ensures.finds a.root.now a.online.now a.nodes.now a.options.partition (Err c.in_err-memory.field-0.0) c.in_err-memory.ensures.looks))
 
 pub returns-in_err-memory-clause-refused : goal.returns-in_err-memory-clause-refused
 returns-in_err-memory-clause-refused g c =
@@ -27,9 +27,9 @@ returns-in_err-memory-clause-refused g c =
     let p = err_from_is_err_and c.from_residual-in_err-memory.result c.from_residual-in_err-memory.ensures.1 in
     rw (p.1, p.2) (
       behind_lock (g.T.GroupTrees.finds a.trees.now) a.root.now tells.0,
-      tells_behind (g.T.GroupTrees.finds a.trees.now) a.root.now a.online.now a.nodes.now a.adopt c.in_err-memory.field-0.0 tells.0
-          (looks_before _ _ c.lock_root.ensures.finds a.root.now a.online.now a.nodes.now (Err c.in_err-memory.field-0.0) c.in_err-memory.ensures.looks)
-          (machine_tells_before _ _ c.lock_root.ensures.finds a.root.now a.online.now a.nodes.now a.adopt (Err c.in_err-memory.field-0.0) tells.0 tells.1),
+      tells_behind (g.T.GroupTrees.finds a.trees.now) a.root.now a.online.now a.nodes.now a.options.partition a.options.adopt c.in_err-memory.field-0.0 tells.0
+          (looks_before _ _ c.lock_root.ensures.finds a.root.now a.online.now a.nodes.now a.options.partition (Err c.in_err-memory.field-0.0) c.in_err-memory.ensures.looks)
+          (machine_tells_before _ _ c.lock_root.ensures.finds a.root.now a.online.now a.nodes.now a.options.adopt (Err c.in_err-memory.field-0.0) tells.0 tells.1),
       λ how before held. rw (append_assoc tells.0 (done (Locked a.root.now) ∷ []) before) (tells.2 how _ (c.in_ok-lock.ensures.asked how before held)),
     )
 

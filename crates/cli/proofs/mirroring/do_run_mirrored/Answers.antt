@@ -1,5 +1,5 @@
 -- The script was run in the tree, or its group can't be made, or the root or a file is refused.
-use Rattle.std.proofs.Common.{◌++◌, inl, inr}
+use Rattle.std.proofs.Common.{◌++◌, inl, inr, refl}
 use Rattle.cgroup_tree.specs.Asked.{Closes, HandsBack}
 use Rattle.runtime.specs.MirroredNodes.{site_of}
 use Rattle.cli.proofs.Leaving.{behind, leaves_more}
@@ -20,20 +20,20 @@ returns-in-Ok-open_below g c =
         (
           opened.0,
           opened.1,
-          leaves_more g.T.Files.GroupFiles.asked (site_of c.in-Ok.found c.args.root.path.now tree.tree.memory c.args.root.adopt)
+          leaves_more g.T.Files.GroupFiles.asked (site_of c.in-Ok.found c.args.root.path.now tree.tree.memory c.args.root.options)
               (λ calls. Closes g.T.GroupTrees.asked mid calls ran.new.trees)
               (λ calls. HandsBack g.T.GroupTrees.asked c.args.trees.now (calls ++ opened.0) ran.new.trees)
               (behind g.T.GroupTrees.asked c.args.trees.now mid ran.new.trees opened.0 opened.2)
               g.W.Write.contents g.E.Write.contents c.args.console.now ran.new.console ran.result c.in-Ok.found g.B.Bundles.finds (g.B.Bundles.told c.args.bundles)
               (g.R.Read.remaining c.args.script.now) (g.R.Read.remaining ran.new.script)
-              (rw (tree.ensures.root, tree.ensures.adopt) at ran.ensures),
+              (rw (tree.ensures.root, tree.ensures.options) at ran.ensures),
         ),
       ),
     )
 
 pub returns-in-Err-open_below : goal.returns-in-Err-open_below
 returns-in-Err-open_below g c =
-    inl (c.in-Ok.found, c.in-Ok.ensures, inr (c.in-Err-open_below.why, c.in-Err-open_below.ensures.answers, rw c.note_of.ensures at c.print_then_note.ensures))
+    inl (c.in-Ok.found, c.in-Ok.ensures, inr (c.in-Err-open_below.why, c.in-Err-open_below.ensures.answers, rw c.note_of.ensures at c.print_then_note.ensures, refl))
 
 pub returns-in-Err : goal.returns-in-Err
-returns-in-Err g c = inr (c.in-Err.unready, c.in-Err.ensures, c.refuse.ensures, λ how before held. held)
+returns-in-Err g c = inr (c.in-Err.unready, c.in-Err.ensures, c.refuse.ensures, refl, λ how before held. held)

@@ -11,7 +11,7 @@ use Rattle.cli.proofs.mirroring.run_mirrored_in.Goals as goal
 pub returns-in-Ok : goal.returns-in-Ok
 returns-in-Ok g c =
     let a = c.args in
-    let site = site_of a.machine (string_bytes a.tree.root) a.tree.memory a.tree.adopt in
+    let site = site_of a.machine (string_bytes a.tree.root) a.tree.memory a.tree.options in
     let played = c.play_mirrored-end in
     inl (
       c.in-Ok.node,
@@ -33,7 +33,7 @@ returns-in-Ok g c =
 pub returns-in-Err : goal.returns-in-Err
 returns-in-Err g c =
     let a = c.args in
-    let site = site_of a.machine (string_bytes a.tree.root) a.tree.memory a.tree.adopt in
+    let site = site_of a.machine (string_bytes a.tree.root) a.tree.memory a.tree.options in
     let none = c.in-Err.not_booted in
     inr (
       none.error,
@@ -42,4 +42,5 @@ returns-in-Err g c =
           (λ calls made before held. c.close-in-Err.ensures (opening site) before calls held made)
           a.machine none.error (rw c.requires.site at c.in-Err.ensures.err),
       rw c.from-why.ensures at c.print_then_note.ensures,
+      refl,
     )

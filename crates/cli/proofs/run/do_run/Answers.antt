@@ -14,7 +14,7 @@ returns-in-Ok-boot g c = inl (
 )
 
 pub returns-in-Err-boot : goal.returns-in-Err-boot
-returns-in-Err-boot g c = inl (c.in-Ok.found, c.in-Ok.ensures, inr c.print_then_note.ensures)
+returns-in-Err-boot g c = inl (c.in-Ok.found, c.in-Ok.ensures, inr (c.print_then_note.ensures, refl))
 
 pub returns-in-Err : goal.returns-in-Err
-returns-in-Err g c = inr (c.in-Err.unready, c.in-Err.ensures, c.refuse.ensures)
+returns-in-Err g c = inr (c.in-Err.unready, c.in-Err.ensures, c.refuse.ensures, refl)

@@ -1,7 +1,6 @@
-use Rattle.apply_plan.specs.RunLemmas.{steps_leave, ends_within}
-use Rattle.apply_plan.specs.HandoverLemmas.{at_most_two}
+use Rattle.node.proofs.OrderLemmas.{both_leave, calls_leave, few_by}
 use Rattle.node.proofs.EndingLemmas.{handovers_end}
 use Rattle.node.proofs.laws.each_handover.Goals as goal
 
 pub returns : goal.returns
-returns c = handovers_end steps_leave ends_within at_most_two
+returns c = handovers_end both_leave calls_leave few_by

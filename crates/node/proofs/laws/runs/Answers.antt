@@ -1,4 +1,4 @@
-use Rattle.apply_plan.specs.RunLemmas.{steps_leave}
+use Rattle.node.proofs.OrderLemmas.{both_leave}
 use Rattle.apply_plan.specs.EffectLemmas.{safe_in_effect}
 use Rattle.node.proofs.FirstLemmas.{first_is_node}
 use Rattle.node.proofs.MachineLemmas.{runs_keep, runs_stay_safe, runs_stay_apart, rebalances_are_steps}
@@ -8,9 +8,9 @@ use Rattle.node.proofs.laws.runs.Goals as goal
 pub returns : goal.returns
 returns c = record {
   first = first_is_node;
-  keep = runs_keep steps_leave;
-  safe = runs_stay_safe steps_leave;
-  apart = runs_stay_apart steps_leave safe_in_effect;
+  keep = runs_keep both_leave;
+  safe = runs_stay_safe both_leave;
+  apart = runs_stay_apart both_leave safe_in_effect;
   single = rebalances_are_steps;
   said = containers_are_said;
 }

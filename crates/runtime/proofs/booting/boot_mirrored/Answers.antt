@@ -18,6 +18,9 @@ new-kernel-requires-clause-root g c = ap (λ (s : Site). s.root) (sym c.requires
 pub new-kernel-requires-clause-memory : goal.new-kernel-requires-clause-memory
 new-kernel-requires-clause-memory g c = ap (λ (s : Site). s.memory) (sym c.requires.site)
 
+pub new-kernel-requires-clause-partition : goal.new-kernel-requires-clause-partition
+new-kernel-requires-clause-partition g c = ap (λ (s : Site). s.partition) (sym c.requires.site)
+
 pub returns-in-Ok-new-clause-boots : goal.returns-in-Ok-new-clause-boots
 returns-in-Ok-new-clause-boots g c =
     let made = c.new-kernel.result in

@@ -19,6 +19,12 @@ is_text word e = is_utf8-from_IsUtf8 word (IsUtf8-from_ascii word (are_ascii wor
 pub returns-clause-bare : goal.returns-clause-bare
 returns-clause-bare c = rw (is_text (codes "rebalance") refl) refl
 
+pub returns-clause-direct : goal.returns-clause-direct
+returns-clause-direct c = rw (is_text (codes "begin") refl, is_text (codes "direct") refl) refl
+
+pub returns-clause-direct_plan : goal.returns-clause-direct_plan
+returns-clause-direct_plan c = rw (is_text (codes "rebalance") refl, is_text (codes "direct") refl) refl
+
 pub returns-clause-two_texts : goal.returns-clause-two_texts
 returns-clause-two_texts c = rw (is_text (codes "create") refl, is_text (codes "web") refl, is_text (codes "images/web") refl) refl
 

@@ -4,4 +4,4 @@ use Rattle.tools.specs.StartLemmas.{beginning_of}
 use Rattle.tools.proofs.mirror.over_files.Given as goal
 
 abbrev pub ghosts-over : goal.ghosts-over
-ghosts-over g a = record { site = record { root = string_bytes a.root; memory = a.memory; adopt = false; first = beginning_of a.inner } }
+ghosts-over g a = record { site = record { root = string_bytes a.root; memory = a.memory; adopt = false; partition = false; first = beginning_of a.inner } }

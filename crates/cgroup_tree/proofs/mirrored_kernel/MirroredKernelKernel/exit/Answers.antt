@@ -9,8 +9,8 @@ pub invariant_of-self : goal.invariant_of-self
 invariant_of-self g c =
     let event = Exited c.args.pid c.exit.result in
     let was = c.self.invariant in (
-      goes_on g.F.GroupFiles.asked g.S.Sited.site _ _ _ _ _ _ _ _ event was.0 (ap string_bytes c.exit.ensures.same.0) c.exit.ensures.same.1 c.exit.ensures.case
-          (unasked g.F.GroupFiles.asked _ _ c.exit.ensures.same.2),
-      rw (ap string_bytes c.exit.ensures.same.0, c.exit.ensures.room) (goes_on_in_room _ _ _ _ _ event (well_at g.F.GroupFiles.asked _ _ _ _ _ was.0) (omega (arith)) was.1 c.exit.ensures.case tt),
+      goes_on g.F.GroupFiles.asked g.S.Sited.site _ _ _ _ _ _ _ _ _ _ event was.0 (ap string_bytes c.exit.ensures.same.0, c.exit.ensures.same.1, c.exit.ensures.same.2) c.exit.ensures.case
+          (unasked g.F.GroupFiles.asked _ _ c.exit.ensures.files),
+      rw (ap string_bytes c.exit.ensures.same.0, c.exit.ensures.room) (goes_on_in_room _ _ _ _ _ event (well_at g.F.GroupFiles.asked _ _ _ _ _ _ was.0) (omega (arith)) was.1 c.exit.ensures.case tt),
       rw c.exit.ensures.room was.2,
     )

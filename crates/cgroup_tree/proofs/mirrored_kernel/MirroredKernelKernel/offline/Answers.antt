@@ -9,8 +9,8 @@ pub invariant_of-self : goal.invariant_of-self
 invariant_of-self g c =
     let event = WentOffline c.args.cpu c.offline.result in
     let was = c.self.invariant in (
-      goes_on g.F.GroupFiles.asked g.S.Sited.site _ _ _ _ _ _ _ _ event was.0 (ap string_bytes c.offline.ensures.same.0) c.offline.ensures.same.1 c.offline.ensures.case
-          (unasked g.F.GroupFiles.asked _ _ c.offline.ensures.same.2),
-      rw (ap string_bytes c.offline.ensures.same.0, c.offline.ensures.room) (goes_on_in_room _ _ _ _ _ event (well_at g.F.GroupFiles.asked _ _ _ _ _ was.0) (omega (arith)) was.1 c.offline.ensures.case tt),
+      goes_on g.F.GroupFiles.asked g.S.Sited.site _ _ _ _ _ _ _ _ _ _ event was.0 (ap string_bytes c.offline.ensures.same.0, c.offline.ensures.same.1, c.offline.ensures.same.2) c.offline.ensures.case
+          (unasked g.F.GroupFiles.asked _ _ c.offline.ensures.files),
+      rw (ap string_bytes c.offline.ensures.same.0, c.offline.ensures.room) (goes_on_in_room _ _ _ _ _ event (well_at g.F.GroupFiles.asked _ _ _ _ _ _ was.0) (omega (arith)) was.1 c.offline.ensures.case tt),
       rw c.offline.ensures.room was.2,
     )

@@ -9,8 +9,8 @@ pub invariant_of-self : goal.invariant_of-self
 invariant_of-self g c =
     let event = CameOnline c.args.cpu c.online_cpu.result in
     let was = c.self.invariant in (
-      goes_on g.F.GroupFiles.asked g.S.Sited.site _ _ _ _ _ _ _ _ event was.0 (ap string_bytes c.online_cpu.ensures.same.0) c.online_cpu.ensures.same.1 c.online_cpu.ensures.case
-          (unasked g.F.GroupFiles.asked _ _ c.online_cpu.ensures.same.2),
-      rw (ap string_bytes c.online_cpu.ensures.same.0, c.online_cpu.ensures.room) (goes_on_in_room _ _ _ _ _ event (well_at g.F.GroupFiles.asked _ _ _ _ _ was.0) (omega (arith)) was.1 c.online_cpu.ensures.case tt),
+      goes_on g.F.GroupFiles.asked g.S.Sited.site _ _ _ _ _ _ _ _ _ _ event was.0 (ap string_bytes c.online_cpu.ensures.same.0, c.online_cpu.ensures.same.1, c.online_cpu.ensures.same.2) c.online_cpu.ensures.case
+          (unasked g.F.GroupFiles.asked _ _ c.online_cpu.ensures.files),
+      rw (ap string_bytes c.online_cpu.ensures.same.0, c.online_cpu.ensures.room) (goes_on_in_room _ _ _ _ _ event (well_at g.F.GroupFiles.asked _ _ _ _ _ _ was.0) (omega (arith)) was.1 c.online_cpu.ensures.case tt),
       rw c.online_cpu.ensures.room was.2,
     )

@@ -9,8 +9,8 @@ pub invariant_of-self : goal.invariant_of-self
 invariant_of-self g c =
     let event = RemovedGroup c.args.group c.remove_group.result in
     let was = c.self.invariant in (
-      goes_on g.F.GroupFiles.asked g.S.Sited.site _ _ _ _ _ _ _ _ event was.0 (ap string_bytes c.remove_group.ensures.same.0) c.remove_group.ensures.same.1 c.remove_group.ensures.case
+      goes_on g.F.GroupFiles.asked g.S.Sited.site _ _ _ _ _ _ _ _ _ _ event was.0 (ap string_bytes c.remove_group.ensures.same.0, c.remove_group.ensures.same.1, c.remove_group.ensures.same.2) c.remove_group.ensures.case
           (grown g.F.GroupFiles.asked _ _ _ _ c.remove_group.ensures.asks),
-      rw (ap string_bytes c.remove_group.ensures.same.0) (goes_on_in_room _ _ _ _ _ event (well_at g.F.GroupFiles.asked _ _ _ _ _ was.0) c.remove_group.ensures.wider.0 was.1 c.remove_group.ensures.case tt),
+      rw (ap string_bytes c.remove_group.ensures.same.0) (goes_on_in_room _ _ _ _ _ event (well_at g.F.GroupFiles.asked _ _ _ _ _ _ was.0) c.remove_group.ensures.wider.0 was.1 c.remove_group.ensures.case tt),
       omega (arith, was.2, c.remove_group.ensures.wider.1),
     )

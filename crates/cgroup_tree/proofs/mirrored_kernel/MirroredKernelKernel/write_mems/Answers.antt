@@ -9,8 +9,8 @@ pub invariant_of-self : goal.invariant_of-self
 invariant_of-self g c =
     let event = WroteMems c.args.group c.args.mems c.write_mems.result in
     let was = c.self.invariant in (
-      goes_on g.F.GroupFiles.asked g.S.Sited.site _ _ _ _ _ _ _ _ event was.0 (ap string_bytes c.write_mems.ensures.same.0) c.write_mems.ensures.same.1 c.write_mems.ensures.case
+      goes_on g.F.GroupFiles.asked g.S.Sited.site _ _ _ _ _ _ _ _ _ _ event was.0 (ap string_bytes c.write_mems.ensures.same.0, c.write_mems.ensures.same.1, c.write_mems.ensures.same.2) c.write_mems.ensures.case
           (grown g.F.GroupFiles.asked _ _ _ _ c.write_mems.ensures.asks),
-      rw (ap string_bytes c.write_mems.ensures.same.0) (goes_on_in_room _ _ _ _ _ event (well_at g.F.GroupFiles.asked _ _ _ _ _ was.0) c.write_mems.ensures.wider.0 was.1 c.write_mems.ensures.case tt),
+      rw (ap string_bytes c.write_mems.ensures.same.0) (goes_on_in_room _ _ _ _ _ event (well_at g.F.GroupFiles.asked _ _ _ _ _ _ was.0) c.write_mems.ensures.wider.0 was.1 c.write_mems.ensures.case tt),
       omega (arith, was.2, c.write_mems.ensures.wider.1),
     )

@@ -29,5 +29,5 @@ returns-clause-pool g c =
 
 pub returns-clause-ongoing : goal.returns-clause-ongoing
 returns-clause-ongoing g c =
-    subst (λ (ss : List Ids). IfOk c.opening_to.result (λ p. seen_ongoing p.1 ≡ opened c.args.self.now ss))
+    subst (λ (ss : List Ids). IfOk c.opening_to.result (λ p. seen_ongoing p.1 ≡ opened c.args.order c.args.self.now ss))
     (c.shown_cpus.ensures ∙ ap (λ (n : NodeState). as_cpus n.machine c.args.plan.now) c.self.view_is) c.opening_to.ensures.ongoing

@@ -1,10 +1,10 @@
-use Rattle.apply_plan.specs.RunLemmas.{steps_leave}
+use Rattle.node.proofs.OrderLemmas.{both_leave}
 use Rattle.node.proofs.StepLemmas.{says, broken_off, counts}
 use Rattle.node.proofs.node.Node.step.Goals as goal
 
 pub returns : goal.returns
 returns g c =
-    let law = steps_leave in
+    let law = both_leave in
     let old = c.args.self.now in
     let new = c.step_body.new.self in
     let r = c.step_body.result in
@@ -15,6 +15,7 @@ returns g c =
       falls = λ e o was. (says law old c.holds.ensures o was r new done).falls e;
       made = λ o was. (says law old c.holds.ensures o was r new done).made;
       done = λ e o was. (says law old c.holds.ensures o was r new done).done e;
+      squeezes = λ o was. (says law old c.holds.ensures o was r new done).squeezes;
       broken = broken_off law old c.holds.ensures r new done;
       counted = counts law old c.holds.ensures r new done;
     }

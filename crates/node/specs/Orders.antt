@@ -1,0 +1,57 @@
+-- What a step of a hand-over is in each order, and what it leaves to do.
+use Rattle.std.specs.Prelude.{◌≡◌, ℕ, zero, suc, ◌+◌, ◌≤◌, Result, Ok}
+use Rattle.kernel_model.specs.declared.KernelFault.{KernelFault}
+use Rattle.kernel_model.specs.KernelState.{KernelState}
+use Rattle.machine.specs.Layout.{Layout}
+use Rattle.apply_plan.specs.declared.Progress.{Progress}
+use Rattle.apply_plan.specs.declared.Progress.TheVariants.{More}
+use Rattle.apply_plan.specs.Targets.{Targets}
+use Rattle.apply_plan.specs.DueWrite.{Steps, writes_to_come, made_by_step}
+use Rattle.apply_plan.specs.Finishes.{last_answer}
+use Rattle.apply_plan.specs.MayWrite.{left_directly}
+use Rattle.apply_plan.specs.Directed.{Directed}
+use Rattle.apply_plan.specs.DirectWrite.{StepsDirectly, made_directly}
+use Rattle.node.specs.declared.order.Order.{Order}
+use Rattle.node.specs.declared.order.Order.TheVariants.{InTurn, Directly}
+use Rattle.node.specs.NodeState.{Ongoing}
+use Rattle.node.specs.LeastCores.{least_cores}
+
+-- a hand-over as the direct order knows it
+abbrev pub directed_of : Ongoing → Directed
+directed_of o = record { targets = o.targets; allowed = o.allowed }
+
+-- a step in this order
+abbrev pub StepsBy : Order → Layout → Ongoing → KernelState → Result Progress KernelFault → KernelState → Type 0
+StepsBy InTurn m o old r new = Steps o.targets old r new
+StepsBy Directly m o old r new = StepsDirectly (directed_of o) (least_cores m) old r new
+
+-- n steps, after each of which more are to come
+abbrev pub StepsMoreBy : Order → Layout → Ongoing → ℕ → KernelState → KernelState → Type 0
+StepsMoreBy order m o zero old new = new ≡ old
+StepsMoreBy order m o (suc n) old new = (mid : KernelState) × StepsBy order m o old (Ok More) mid × StepsMoreBy order m o n mid new
+
+-- the steps up to the one that ends the hand-over
+pub record AllStepsBy (order : Order) (m : Layout) (o : Ongoing) (old : KernelState) (r : Result (Unit {0}) KernelFault) (new : KernelState) : Type 0 where
+  pub steps : ℕ
+  pub mid : KernelState
+  pub more : StepsMoreBy order m o steps old mid
+  pub ends : StepsBy order m o mid (last_answer r) new
+
+-- how many writes are left; in the direct order, at most
+abbrev pub left_by : Order → Targets → KernelState → ℕ
+left_by InTurn h k = writes_to_come h k
+left_by Directly h k = left_directly h k
+
+-- how many writes are left of a hand-over, in its order
+abbrev pub left_of : Ongoing → KernelState → ℕ
+left_of o k = left_by o.order o.targets k
+
+-- a step after which more are to come leaves one write less; in the direct order one less, or fewer
+abbrev pub FallsBy : Order → Targets → KernelState → KernelState → Type 0
+FallsBy InTurn h old new = writes_to_come h old ≡ writes_to_come h new + 1
+FallsBy Directly h old new = left_directly h new + 1 ≤ left_directly h old
+
+-- how many writing calls a step makes: one if a write is due, whether it fails or not, and else none
+abbrev pub made_by : Order → Layout → Ongoing → KernelState → ℕ
+made_by InTurn m o k = made_by_step o.targets k
+made_by Directly m o k = made_directly (directed_of o) (least_cores m) k
