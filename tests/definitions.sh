@@ -23,9 +23,10 @@ differs crates/cli/specs/Program.antt '/^  -- the root is refused$/d'
 differs crates/cpuset_tree/specs/TreeState.antt '0,/^use /{/^--/d}'
 differs crates/cpu_list/specs/ListText.antt 's/^abbrev pub piece_names /abbrev pub part_names /'
 differs tests/pages/without-comments 's/^cpu_set Ids: /&IsDisjoint /'
-# A comment above a clause, a claim at the head of a file, the doc of a law, a claim without a row, and a row by hand.
+# A comment above a clause, a claim at the head of a file, the doc of a law, a claim and a law without a row, and a row by hand.
 differs crates/transport/src/solver.rt 's/the lower CPU first\.$/the higher CPU first./'
 differs crates/certificate/src/lib.rt 's/^\/\/! - All sums fit /\/\/! - Most sums fit /'
 differs crates/twins/src/laws.rt 's/^\/\/\/ A class has one weight/\/\/\/ A class has two weights/'
 differs docs/claims.md '/^- `check_shortage`: /d'
+differs docs/claims.md '/^- `laws::pasts`: /d'
 differs docs/claims.md 's/^- `laws::the_limits`: Numbers are below 4,096\./- `laws::the_limits`: Numbers are below 4,095./'

@@ -82,6 +82,24 @@ with_cores='{
 says "$with_cores" --cores
 says "$with_cores" --cores --reserved 0,4
 says 'numarun-describe: --cores: the core 1,5 is reserved in part' refused --reserved 0,4,1 --cores
+# The system's own CPUs are left out, in whole cores, and the lowest core of the others is reserved.
+says '{
+  "nodes": ["1,5", "2-3,6-7"],
+  "distances": [[10, 21], [21, 10]],
+  "reserved": "1,5",
+  "offline": "",
+  "cores": ["1,5", "2,6", "3,7"]
+}' --cores --system 0,4
+says '{
+  "nodes": ["", "2-3,6-7"],
+  "distances": [[10, 21], [21, 10]],
+  "reserved": "3",
+  "offline": ""
+}' --system 0-1,4-5 --reserved 3
+says 'numarun-describe: --system: the core 0,4 is left to the system in part' refused --cores --system 0
+says 'numarun-describe: --system: CPUs that no node has: 8' refused --system 8
+says 'numarun-describe: --system: no CPU that is online is left to containers' refused --system 0-7
+says 'numarun-describe: reserved CPUs that are not online: 0' refused --system 0 --reserved 0-1
 echo '{"ociVersion": "1.0.2", "root": {"path": "r"}, "linux": {"resources": {"cpu": {"quota": 100000}}}}' > "$scratch/config.json"
 echo "$with_cores" > "$scratch/cores.json"
 answers=$(printf 'create a %s\nrebalance\n' "$scratch" | timeout 60 "$program" run "$scratch/cores.json" | paste -s -d ,)

@@ -2,10 +2,13 @@
 # What calls of the modelled kernel and steps of a hand-over take with 1,024 groups, in instructions, which are the same
 # whatever else a machine does: none may take more than its bound, far above what it takes and far below what a walk over all
 # groups or processes would, or, where a CPU goes or comes, all sets in effect worked out anew, or, where a deep group is read,
-# a walk up its path, or, where a name is sought that no group has, a look at each group's name. TOOLS in the environment is
-# counted in place of the program that this builds. Where there is no valgrind it says so, and shows nothing.
+# a walk up its path, or, where a name is sought that no group has, a look at each group's name. Direct hand-overs are those of
+# `numarun run`. TOOLS and PROGRAM in the environment are counted in place of the programs that this builds. Where there is no
+# valgrind it says so, and shows nothing.
 set -euo pipefail
-. "$(cd "$(dirname "$0")/.." && pwd)/benches/build-tools.sh"
+top=$(cd "$(dirname "$0")/.." && pwd)
+. "$top/benches/build-tools.sh"
+. "$top/tests/build-program.sh"
 if ! command -v valgrind >/dev/null; then
     echo 'kernel-costs: no valgrind, so nothing was counted'
     exit 0
@@ -25,13 +28,38 @@ siblings() {
     for ((k = 0; k < $1; k++)); do echo 'find 0 container-x'; done
 }
 
-# counted WORD COUNT: the instructions of a benchmark, or of the lines of a kernel
+# 1,024 containers of three CPUs, each of which is to have those of the next one, the last those of the first
+work=$(mktemp -d)
+trap 'rm -rf "$work"' EXIT
+echo '{"nodes": ["0-4095"], "distances": [[10]], "reserved": "0"}' >"$work/machine.json"
+place() { echo "$((3 * ($1 % 1024) + 1))-$((3 * ($1 % 1024) + 3))"; }
+for ((k = 0; k < 1024; k++)); do
+    mkdir "$work/b$k"
+    printf '{"ociVersion": "1.0.2", "root": {"path": "r"}, "linux": {"resources": {"cpu": {"cpus": "%s"}}}}' "$(place $((k + 1)))" >"$work/b$k/config.json"
+    echo "adopt c$k b$k $(place "$k")" >>"$work/there"
+    echo "create c$k b$k" >>"$work/new"
+done
+
+# steps COUNT: the lines of so many steps of their hand-over
+steps() {
+    cat "$work/there"
+    echo 'begin direct'
+    for ((k = 0; k < $1; k++)); do echo step; done
+}
+
+# moved COUNT: the lines of a plan for them, handed over once or not at all; and for containers that come to these CPUs
+moved() { cat "$work/there" && whole "$1"; }
+first() { cat "$work/new" && whole "$1"; }
+whole() { [ "$1" -gt 0 ] && echo 'rebalance direct' || echo 'begin direct'; }
+
+# counted WORD COUNT: the instructions of a benchmark, or of the lines of a kernel, or of a script
 counted() {
-    local words=("$1" "$2") lines=
+    local words=("$tools" "$1" "$2") lines=
     case $1 in
-    chain | siblings) words=(kernel 0) lines=$("$1" "$2") ;;
+    chain | siblings) words=("$tools" kernel 0) lines=$("$1" "$2") ;;
+    steps | moved | first) words=("$program" run machine.json) lines=$("$1" "$2") ;;
     esac
-    valgrind --tool=callgrind --callgrind-out-file=/dev/null "$tools" "${words[@]}" <<<"$lines" 2>&1 >/dev/null |
+    (cd "$work" && valgrind --tool=callgrind --callgrind-out-file=/dev/null "${words[@]}" <<<"$lines" 2>&1 >/dev/null) |
         awk '/Collected/ { print $4 }'
 }
 
@@ -50,4 +78,7 @@ takes 'a fork, and an exit once all have forked' forks-and-exits 10000 40000 300
 takes 'a read of what the last of 1,000 nested groups has in effect, with its line' chain 100 1100 30000
 takes 'a look for a name that none of 1,000 groups has, with its line' siblings 100 1100 8000
 takes 'a hand-over of 1,024 containers, 2,048 writes' hand-overs 0 1 560000000
+takes 'a step of a direct one that takes a target' steps 100 900 4000000
+takes 'a direct hand-over of 1,024 containers in a ring, 1,025 writes' moved 0 1 4300000000
+takes 'a direct hand-over of 1,024 containers that come' first 0 1 2400000000
 exit "$failed"

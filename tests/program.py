@@ -16,8 +16,9 @@ def version():
 
 
 def run(words, given=b"", seconds=SECONDS, **more):
-    """What came of these words, with this on standard input and both other streams kept."""
+    """What came of these words, with these bytes or this open file on standard input and both other streams kept."""
+    source = {"input": given} if isinstance(given, bytes) else {"stdin": given}
     try:
-        return subprocess.run(words, input=given, capture_output=True, timeout=seconds, **more)
+        return subprocess.run(words, capture_output=True, timeout=seconds, **source, **more)
     except subprocess.TimeoutExpired:
-        sys.exit(f"{words} did not come to its end within {seconds} seconds; its input was {given[:1000]!r}")
+        sys.exit(f"{words} did not come to its end within {seconds} seconds; its input was {repr(given)[:1000]}")

@@ -12,6 +12,8 @@ sed -n '/^numarun-certificate/,/^end$/p' "$top/examples/scripts/plans.answers" |
 python3 -B "$top/tests/scripts/worked.py" "$program"
 python3 -B "$top/tests/scripts/interleaved.py" "$program"
 python3 -B "$top/tests/scripts/compare.py" "$program"
+python3 -B "$top/tests/scripts/direct.py" "$program"
+python3 -B "$top/tests/scripts/every_direct.py" "$program"
 python3 -B "$top/tests/scripts/adopted.py" "$program"
 python3 -B "$top/tests/scripts/whole_cores.py" "$program"
 python3 -B "$top/tests/scripts/largest.py" "$program"

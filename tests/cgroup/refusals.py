@@ -22,14 +22,19 @@ def held(folder):
 
 def played(make, words=(), script=b"list\n"):
     """Status, standard output and standard error over a root that this makes, ROOT for its name. A root that is refused is left as
-    it was."""
+    it was, and no byte of the script was read."""
     folder = tempfile.mkdtemp()
     root = folder + "/root"
     make(root)
     before = held(folder)
-    done = run([program, "run", machine, "--cgroup", root, *words], script)
+    with tempfile.TemporaryFile() as given:
+        given.write(script)
+        given.seek(0)
+        done = run([program, "run", machine, "--cgroup", root, *words], given)
+        read = os.lseek(given.fileno(), 0, os.SEEK_CUR)
     if done.stdout.startswith((b"refused E113", b"refused E115", b"refused E116")):
         assert held(folder) == before, f"a refused root is changed: {held(folder)}, not {before}"
+        assert read == 0, f"{read} bytes of the script were read before the root was refused"
     answer = (done.returncode, done.stdout.decode(), done.stderr.decode().replace(root, "ROOT"))
     shutil.rmtree(folder)
     return answer

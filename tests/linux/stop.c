@@ -53,14 +53,28 @@ int rmdir(const char *path) {
     return answer;
 }
 
-int open(const char *path, int flags, ...) {
-    int (*real)(const char *, int, ...) = dlsym(RTLD_NEXT, "open");
-    va_list rest;
-    va_start(rest, flags);
-    int file = real(path, flags, va_arg(rest, int));
-    va_end(rest);
+static int opened(const char *name, const char *path, int flags, mode_t mode) {
+    int (*real)(const char *, int, ...) = dlsym(RTLD_NEXT, name);
+    int file = real(path, flags, mode);
     if (file >= 0 && file < 1024) counted[file] = below(path) && (flags & O_ACCMODE) != O_RDONLY;
     return file;
+}
+
+int open(const char *path, int flags, ...) {
+    va_list rest;
+    va_start(rest, flags);
+    mode_t mode = va_arg(rest, mode_t);
+    va_end(rest);
+    return opened("open", path, flags, mode);
+}
+
+// What Python's os.open calls.
+int open64(const char *path, int flags, ...) {
+    va_list rest;
+    va_start(rest, flags);
+    mode_t mode = va_arg(rest, mode_t);
+    va_end(rest);
+    return opened("open64", path, flags, mode);
 }
 
 ssize_t write(int file, const void *text, size_t length) {

@@ -66,12 +66,13 @@ def words(*more):
 
 
 class Agent:
-    """An agent that runs; what it says is in a file."""
+    """An agent that runs; what it says is in a file. It may be killed behind a write of its own: the one of this number below a group."""
 
-    def __init__(self, *more, watch=FOLDER):
+    def __init__(self, *more, watch=FOLDER, killed_behind=None, below=ROOT):
         watching = ["--watch", watch] if watch else []
+        stop = {"LD_PRELOAD": tree.STOP, "STOP_ROOT": below, "STOP_KILL": str(killed_behind)} if killed_behind else {}
         self.process = subprocess.Popen(words(*watching, "--pause", "0.1", *more), stdin=subprocess.DEVNULL, stdout=open(OUT, "a"),
-                                        stderr=subprocess.STDOUT)
+                                        stderr=subprocess.STDOUT, env={**os.environ, **stop})
 
     def until(self, holds, what):
         """Waits until this holds."""

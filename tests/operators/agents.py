@@ -339,7 +339,7 @@ def recorded():
     figures = dict(line.split(" ") for line in open(site.at("numarun.prom")).read().splitlines() if not line.startswith("#"))
     del figures["numarun_look_timestamp_seconds"]
     expected = {"plans_total": "1", "moves_total": "5", "steps_total": "2", "waited_seconds_total": "0", "squeezed_seconds_total": "0", "shortages_total": "0", "refused_writes_total": "0", "distance": "61", "distance_beyond_local": "11",
-                "containers_pinned": "1", "containers_shared": "1", "containers_waiting": "0", "containers_squeezed": "0", "undone": "0"}
+                "containers_pinned": "1", "containers_shared": "1", "containers_waiting": "0", "containers_squeezed": "0", "partition_valid": "1", "loose_processes": "0", "undone": "0"}
     check("its figures", figures, {f"numarun_{name}": figure for name, figure in expected.items()})
     site.come("big", 4)
     check("a newcomer waits", site.run(*more, rounds="2")[0], 1)
@@ -457,7 +457,7 @@ def refusals():
         file.write("#!/bin/sh\nread line; echo settled; read line\n")
     os.chmod(name, 0o755)
     status, _, err = told("numarun-agent", MACHINE, "--program", name, text="rebalance\n")
-    check("a program that ends", (status, "ends: ended at 'begin' with no answer, status 0" in err), (1, True))
+    check("a program that ends", (status, "ends: ended at 'begin direct' with no answer, status 0" in err), (1, True))
     refuses("numarun-agent", MACHINE, "--program", shutil.which("yes"), says=f"{MACHINE}: run ")
     refuses("numarun-agent", *PLAIN, "--cgroup", "no-such-root", says="no-such-root: no folder")
     refuses("numarun-agent", *PLAIN, "--slit", "no-such-table", says="refused E113 ReadFault")

@@ -51,8 +51,7 @@ def gone_cpus():
 
 @case
 def detour():
-    """Who keeps none of his CPUs has the reserved one between his two writes, though his new ones are free, and others are written there:
-    first each gives back, then each gets. Who keeps one stays on it."""
+    """Who keeps none of his CPUs gets his new ones by one write where they are free, and does not run on the reserved one meanwhile."""
     site = Site()
     site.come("a", 1)
     agent = Open(site)
@@ -60,7 +59,7 @@ def detour():
     site.log()
     site.online("0,2-7")
     agent.until("done")
-    check("by the reserved one", (site.log(), agent.end()[0]), (["a 0", "a 2"], 0))
+    check("at once", (site.log(), agent.end()[0]), (["a 2"], 0))
     site = Site()
     for name, cpus in (("a", 1), ("b", 2), ("c", 1)):
         site.come(name, cpus)
@@ -70,7 +69,7 @@ def detour():
     site.log()
     site.online("0,2,5-7")
     agent.until("done")
-    check("writes of others between", (site.log(), agent.end()[0]), (["a 0", "b 2", "c 0", "a 5", "b 2,6", "c 7"], 0))
+    check("one write for each", (site.log(), agent.end()[0]), (["a 5", "b 2,6", "c 7"], 0))
 
 
 @case
@@ -290,7 +289,7 @@ def away_for_a_moment():
     check("said and told again", (status, of(lines, "absent", "adopt")), (0, [f"absent a: {site.at('g/a')}: can't be read", f"adopt a {site.at('g/a')} 1-2"]))
     check("once it is told", site.has("a", "b"), ["3-4", "1-2"])
     log = site.log()
-    check("nobody had it meanwhile", [line for line in log[:log.index("b 1-2")] if line.startswith("a ")][-1:], ["a 0"])
+    check("it had left first", [line for line in log[:log.index("b 1-2")] if line.startswith("a ")][-1:], ["a 3-4"])
 
 
 @case

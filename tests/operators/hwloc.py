@@ -5,7 +5,7 @@ import os
 import shutil
 import subprocess
 
-from trial import TOP, bad_files, bad_output, case, check, piped, refuses, told, words_and_help
+from trial import TOP, bad_files, bad_output, case, check, piped, refuses, scratch, text_of, told, words_and_help
 
 MACHINES = os.path.join(TOP, "tests", "operators", "machines")
 TWO_SOCKET = os.path.join(MACHINES, "two-socket.xml")
@@ -26,6 +26,17 @@ def recorded(name, *words, said=(), **expected):
     check(name, {key: found.get(key) for key in expected}, expected)
     lines = err.splitlines()
     check(f"{name}: said {lines}", [text in line for text, line in zip(said, lines)] + [len(lines)], [True] * len(said) + [len(said)])
+
+
+@case
+def into_a_file():
+    """What is there is replaced by a machine file, or stays as it was where that is refused."""
+    path, words = scratch("machine.json"), ("numarun-describe hwloc", TWO_SOCKET, "--reserved")
+    expected = told(*words, "0,16")[1]
+    check("written", (told(*words, "0,16", "--output", path), text_of(path)), ((0, "", ""), expected))
+    refuses(*words, "99", "--output", path, says="reserved CPUs that are not online: 99")
+    check("it stays", (text_of(path), os.listdir(scratch())), (expected, ["machine.json"]))
+    refuses(*words, "0", "--output", scratch("none", "machine.json"), says="none/machine.json: No such file or directory")
 
 
 def same_as_by_hand(name, reserved):

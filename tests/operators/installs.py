@@ -3,6 +3,8 @@ nothing, and that what is taken away is all of it and nothing else."""
 
 import os
 import re
+import shlex
+import shutil
 import subprocess
 
 from trial import OPERATORS, PROGRAM, TOP, case, check, refuses, scratch, told
@@ -124,6 +126,21 @@ def of_somebody_else():
         with open(os.path.join(PREFIX, "lib", "numarun", "installed"), "w") as file:
             file.write(f"{name}\n")
         refuses("install.sh", "--uninstall", PREFIX, says="is no name of what is installed")
+
+
+@case
+def named_by_a_runtime():
+    """While a runtime's configuration names a program of it, it is not taken away: no container would start then."""
+    if not shutil.which("unshare") or subprocess.run(["unshare", "-m", "true"], capture_output=True).returncode:
+        print("a runtime that names it: passed over, as there is none: namespaces of mounts")
+        return
+    before = install()
+    there = sorted(standing())
+    for path, status, left in ((f"{PREFIX}/bin/numarun-runc", 1, there), ("/elsewhere/bin/numarun-runc", 0, before)):
+        line = f"mount -t tmpfs none /etc && mkdir /etc/docker && cat > /etc/docker/daemon.json && exec bash {shlex.join([OPERATORS + '/install.sh', '--uninstall', PREFIX])}"
+        text = f'{{"runtimes": {{"numarun": {{"path": "{path}"}}}}}}'
+        ran = subprocess.run(["unshare", "-m", "sh", "-c", line], input=text, capture_output=True, text=True)
+        check(path, (ran.returncode, "/etc/docker/daemon.json: no container starts" in ran.stderr, sorted(standing())), (status, status == 1, left))
 
 
 @case

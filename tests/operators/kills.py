@@ -1,7 +1,7 @@
 """Kills the agent, and only that, at moments by chance and starts it again, while containers come, go and come back under their
 ids, some with a config that is written in two parts. `kills.py [SEED [MOMENTS]]`. Looks at the tree all the while: who requests CPUs
 without a reserved one has them as its own, and they are with no other container; and no container that had its CPUs is squeezed
-onto the reserved ones. Who comes while a plan is handed over may get what was meant for the one before, as the pool's CPUs, which are
+onto the reserved ones, by whatever cause. Who comes while a plan is handed over may get what was meant for the one before, as the pool's CPUs, which are
 nobody's own. It goes on beyond its moments until enough has happened, however slow the machine is."""
 
 from __future__ import annotations
@@ -11,11 +11,11 @@ import random
 import sys
 import tempfile
 import time
-from typing import List, Mapping, Set, Tuple
+from typing import Dict, List, Mapping, Set, Tuple
 
 from sites import begun
 from trial import check, failed, long_case, scratch
-from worlds import MOST, SAYS, World
+from worlds import MOST, SAYS, Squeeze, World, count_causes
 from numarun_host.cpus import Cpus
 
 RESERVED = frozenset({0, 8})
@@ -29,7 +29,7 @@ class Killed(World):
         super().__init__(folder, MACHINE, random.Random(seed))
         self.online("0-15")
         self.shared: List[Tuple[str, List[Tuple[str, str]], Mapping[str, Cpus]]] = []
-        self.squeezed: List[Tuple[str, str, Mapping[str, Cpus]]] = []  # when, who, and what each one requested
+        self.squeezed: Dict[int, Squeeze] = {}  # the containers that had them, and then had not
         self.had: Set[int] = set()  # the containers, each time that one came, that had all their CPUs
 
     def happen(self) -> None:
@@ -51,7 +51,7 @@ class Killed(World):
             if wish and len(sets[name] - RESERVED) == wish.count:
                 self.had.add(wish.number)
             elif wish and wish.number in self.had:
-                self.squeezed.append((now, name, sets))
+                self.squeezed.setdefault(wish.number, self.squeeze(name))
 
     def counts(self) -> Mapping[str, int]:
         """How many lines of each kind the agents said."""
@@ -78,9 +78,10 @@ def killed_at_moments(folder: str, seed: int, moments: int) -> None:
     check("the last run", begun(world, "--home", "none", "--rounds", "4").wait(), 0)
     world.check_end()
     check("CPUs with two containers", world.shared[:2] + world.shared[-1:], [])
-    check("squeezed ones", world.squeezed[:2] + world.squeezed[-1:], [])
+    causes = count_causes(world.squeezed.values(), world.said(), PINNED, RESERVED)
+    check("squeezed ones", causes, dict.fromkeys(causes, 0))
     check("enough has happened", world.is_enough(moments), True)
-    print(f"kills, seed {seed}: {times} kills, {world.looks} looks ({world.torn} torn), {len(world.shared)} unsafe, {len(world.squeezed)} squeezed; "
+    print(f"kills, seed {seed}: {times} kills, {world.looks} looks ({world.torn} torn), {len(world.shared)} unsafe, squeezed by {causes}; "
           f"{len(world.had)} of {world.count} had their CPUs; {dict(world.counts())}")
 
 

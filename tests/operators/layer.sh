@@ -28,7 +28,7 @@ SCRIPT
 ln -sf /bin/true "$root/bin/systemctl"
 cat > "$root/start" <<'SCRIPT'
 setsid sh -c 'echo $$ > /agent; . /words' > /log 2>&1 < /dev/null &
-until grep -q "^[^ ]* done" /log; do sleep 0.05; done
+until grep -qs "^[^ ]* done" /log; do sleep 0.05; done
 SCRIPT
 cp "$folder/words" "$root/words"
 here() { chroot "$root" "$@"; }
@@ -46,8 +46,11 @@ before=$(cat "$root/agent")
 here dpkg --force-depends -i "$second" > "$folder/upgraded" 2>&1
 note upgraded
 [ "$before" != "$(cat "$root/agent")" ] && echo "another agent runs"
+mkdir -p "$root/usr/share/containers/oci/hooks.d"
+echo '{"hook": {"path": "/usr/bin/numarun-hook"}}' > "$root/usr/share/containers/oci/hooks.d/layer.json"
 here dpkg --force-depends -r numarun > "$folder/removed" 2>&1
 note removed
+grep -o "/[^ ]*/layer.json names a program" "$folder/removed"
 grep "^given back" "$folder/removed" | sed 's/.*cpus/cpus/'
 echo "files left: $(files), agents left: $(ls "$root/agent" 2> /dev/null | wc -l), etc: $(ls "$root/etc/numarun")"
 here dpkg -P numarun > "$folder/purged" 2>&1

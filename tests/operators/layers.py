@@ -27,6 +27,7 @@ EXPECTED = [
     "upgraded: restart numarun-agent.service, 1-2",
     "another agent runs",
     "removed: stop numarun-agent.service,",
+    "/usr/share/containers/oci/hooks.d/layer.json names a program",
     "cpus - mems -",
     "files left: 0, agents left: 0, etc: machine.json",
     "purged: none nothing",

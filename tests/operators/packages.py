@@ -45,6 +45,8 @@ def goes_on():
     check("started again", (unit["Service"]["Restart"], unit["Unit"]["StartLimitIntervalSec"], int(unit["Service"]["RestartSec"]) >= 5), ("always", "0", True))
     check("ready behind a look, and watched", (unit["Service"]["Type"], int(unit["Service"]["WatchdogSec"]) > 120, unit["Service"]["RuntimeDirectoryPreserve"]),
           ("notify", True, "yes"))
+    check("ready before the runtimes start containers", {"docker.service", "containerd.service", "podman-restart.service"} <= set(unit["Unit"]["Before"].split()), True)
+    check("its temporary files are where it may write anyway", "TMPDIR=/run/numarun" in unit["Service"]["Environment"].split(), True)
     check("not without a machine file", unit["Unit"]["ConditionPathExists"], "/etc/numarun/machine.json")
     check("no limit stands where it counts for nothing", "StartLimitIntervalSec" in unit["Service"], False)
     site = Site()
@@ -65,18 +67,18 @@ def goes_on():
     check("and given back", (status, site.file("system.slice"), site.has("a")), (0, "", [""]))
 
 
-def unit_block(page):
-    """What a page says to type until the unit is enabled, without its comments."""
-    blocks = re.findall(r"```sh\n(.*?)```", open(os.path.join(OPERATORS, page)).read(), re.S)
-    return re.sub(r"\s+#.*", "", next(block for block in blocks if "systemctl enable" in block))
+def until_enabled():
+    """What the first page says to type from the machine file until the unit is enabled, without its comments and without the look before."""
+    blocks = re.findall(r"```sh\n(.*?)```", open(os.path.join(OPERATORS, "README.md")).read(), re.S)
+    first, last = (next(k for k, block in enumerate(blocks) if word in block) for word in ("numarun-describe host", "systemctl enable"))
+    return re.sub(r"\s+#.*", "", "".join(block for block in blocks[first:last + 1] if "--rounds" not in block))
 
 
 @case
 def by_the_page():
-    """What the pages say to type makes a machine file with cores, and an agent that starts by it before any container ran."""
+    """What the page says to type makes a machine file with cores, and an agent that starts by it before any container ran."""
     prefix, etc, bin = installed("prefix"), scratch("etc"), scratch("bin")
-    block = unit_block("README.md")
-    check("the first page and install.md say the same", unit_block("install.md"), block)
+    block = until_enabled()
     os.makedirs(bin)
     with open(os.path.join(bin, "systemctl"), "w") as file:
         file.write(f'#!/bin/sh\necho "$@" > {shlex.quote(os.path.join(etc, "systemctl"))}\n')

@@ -25,7 +25,7 @@ PACKAGE = pathlib.Path(OPERATORS) / "numarun_host"
 PAGES: Dict[str, str] = {path.name: path.read_text() for path in pathlib.Path(OPERATORS).glob("*.md")}
 PROGRAMS = ("numarun-agent", "numarun-agent status", "numarun-agent add-service", "numarun-hook", "numarun-runc", "numarun-dry-run", "numarun-explain", "numarun-draw-plan", "numarun-describe host",
             "numarun-describe hwloc", "install.sh")
-OF_OTHERS = {"--annotation", "--env", "--of", "--disallowed", "--now", "--sort", "--cpu-quota", "--name", "--root", "--runc-binary", "--cgroup-parent", "--memory"}  # options of other programs
+OF_OTHERS = {"--annotation", "--env", "--of", "--disallowed", "--now", "--sort", "--cpu-quota", "--name", "--root", "--runc-binary", "--cgroup-parent", "--cgroup-manager", "--memory"}  # options of other programs
 OF_THE_SYSTEM = {"No such file or directory", "No space left on device"}
 OPTION = re.compile(r"(?<![\w-])--[a-z][a-z-]+")
 
@@ -165,19 +165,19 @@ def a_service() -> None:
     pool."""
     site = two_sockets()
     site.online("0-31")
-    for group in ("system.slice", "system.slice/postgresql.service", "system.slice/ssh.service"):
+    for group in ("system.slice", "system.slice/mariadb.service", "system.slice/ssh.service"):
         site.make_group(None, group=group)
-    short, block = (block for block in blocks("runtimes.md", "sh") if "postgresql" in block)
-    folder = site.at("etc/services/postgresql")
+    short, block = (block for block in blocks("runtimes.md", "sh") if "mariadb" in block)
+    folder = site.at("etc/services/mariadb")
     check("the short way", typed(f"{short.strip()} --services {site.at('etc/services')} --cgroup {site.at('root')}"),
-          (0, f"{folder}: postgresql.service at /system.slice/postgresql.service\n"))
+          (0, f"{folder}: mariadb.service at /system.slice/mariadb.service\n"))
     by_hand = {name: json.load(open(os.path.join(folder, name))) for name in ("status", "config.json")}
     check("typed", typed(f"set -e\n{block}".replace("/etc/numarun", site.at("etc"))), (0, ""))
     check("the same by hand", {name: json.load(open(os.path.join(folder, name))) for name in by_hand}, by_hand)
     status, lines = site.run("--defaults", "--watch", site.at("etc/services"), "--rest", "system.slice")
-    named = "hold postgresql 1-2,17-18"
+    named = "hold mariadb 1-2,17-18"
     check("pinned", (status, named in lines, f"`{named}`" in PAGES["runtimes.md"]), (0, True, True))
-    check("beside the others", (site.file("system.slice/postgresql.service"), site.file("system.slice/ssh.service")), ("1-2,17-18", "0,3-16,19-31"))
+    check("beside the others", (site.file("system.slice/mariadb.service"), site.file("system.slice/ssh.service")), ("1-2,17-18", "0,3-16,19-31"))
 
 
 @case

@@ -44,8 +44,9 @@ def in_a_look_with_more():
 
 
 LATE = """
+begins += line == b"begin direct\\n"
 steps += line == b"step\\n"
-if line == b"step\\n" and steps == 1:  # a container comes back in the place of `a`, and its config is not there yet; `b` comes
+if line == b"begin direct\\n" and begins == 1:  # a container comes back in the place of `a`, and its config is not there yet; `b` comes
     for old, new in (("g/a", "old-a"), ("root/numarun/a", "old-group"), ("anew", "root/numarun/a"), ("b", "g/b")):
         os.rename(os.path.join(site, old), os.path.join(site, new))
 killed = {when}
@@ -67,7 +68,7 @@ def late(killed):
     site.come("b", "2")
     os.rename(site.at("g/b"), site.at("b"))
     site.online("0,2-7")
-    agent = Open(site, *site.stand_in(LATE.format(when=killed), BREAKS, site=site.folder, steps=0))
+    agent = Open(site, *site.stand_in(LATE.format(when=killed), BREAKS, site=site.folder, begins=0, steps=0))
     check("killed", agent.process.wait(), -9)
     until = time.monotonic() + 30
     while site.has("a") != ["2"] and time.monotonic() < until:
@@ -76,7 +77,7 @@ def late(killed):
     return site
 
 
-BEHIND_THE_WRITE, IN_THE_NEXT_LOOK = "steps == 2", "line.startswith(b'create b ')"
+BEHIND_THE_WRITE, IN_THE_NEXT_LOOK = "steps == 1", "line.startswith(b'create b ')"
 
 
 @case

@@ -2,8 +2,8 @@
 under their ids, configs and limits change, configs come in two parts, or are broken or refused for a while, the watched folder goes
 away for a while, others write into groups, and CPUs flap. `troubles.py [SEED [MOMENTS]]`. It looks at the tree all the while: who requests CPUs without a reserved one has
 them as its own, and in no look they are with another group that has a process. Who had its own and then requests reserved ones
-alone is squeezed; that is counted by its cause, and only a move may be one: a plan that takes it to other CPUs. It goes on beyond its moments
-until each of these things has happened, however slow the machine is."""
+alone is squeezed; that is counted by its cause. A move, a plan that takes it to other CPUs, is none but in a ring of containers that wait for
+each other. It goes on beyond its moments until each of these things has happened, however slow the machine is."""
 
 from __future__ import annotations
 
@@ -15,11 +15,11 @@ import subprocess
 import sys
 import tempfile
 import time
-from typing import Dict, List, Mapping, Optional, Tuple
+from typing import Dict, List, Mapping, Optional
 
 from sites import begun
-from trial import check, failed, long_case, scratch, text_of
-from worlds import MOST, SAYS, World
+from trial import case, check, failed, long_case, scratch, text_of
+from worlds import MOST, SAYS, Cause, Squeeze, World, cause_of, count_causes, plans_of
 from numarun_host.cpus import Cpus
 
 RESERVED = frozenset({0})
@@ -39,7 +39,7 @@ class Troubled(World):
         self.online("0-15")
         self.unsafe: List[str] = []
         self.own: Dict[str, Cpus] = {}                # which CPUs each one had last as its own
-        self.squeezed: List[Tuple[int, str]] = []     # who had not any more, and how much the agents had said by then
+        self.squeezed: List[Squeeze] = []             # those that had not any more
         self.did = dict.fromkeys(DOES, 0)
 
     def begin_one(self, name: str) -> None:
@@ -117,7 +117,7 @@ class Troubled(World):
         for name, cpus in sets.items():
             if not cpus or cpus == RESERVED:
                 if cpus and name in self.own:
-                    self.squeezed.append((self.said_bytes(), name))
+                    self.squeezed.append(self.squeeze(name))
                     del self.own[name]
             elif not cpus & RESERVED:
                 self.own[name] = cpus
@@ -149,35 +149,6 @@ def kill(run: subprocess.Popen[bytes], which: str) -> int:
     return run.wait()
 
 
-def blocks(said: List[str]) -> List[Tuple[int, List[List[str]]]]:
-    """The lines of the agents as words without their times, from each plan up to the next one, behind how much had been said before."""
-    found: List[Tuple[int, List[List[str]]]] = [(0, [])]
-    at = 0
-    for line in said:
-        words = line.split(" ")[1:]
-        if words[:1] == ["plan"]:
-            found.append((at, []))
-        found[-1][1].append(words)
-        at += len(line.encode()) + 1
-    return found
-
-
-def causes(world: Troubled) -> Mapping[str, int]:
-    """How often one was squeezed, by what was said of it at the plan by then, or at the one before or behind: it was moved, it had lost its
-    place, or nothing of that."""
-    found = dict.fromkeys(("a move", "a place that was lost", "no cause"), 0)
-    several = blocks(world.said())
-    for at, name in world.squeezed:
-        plan = max(k for k, (begins, _) in enumerate(several) if begins <= at)
-        near = [words for _, lines in several[max(plan - 1, 0):plan + 2] for words in lines if words[1:2] in ([name], [f"{name}:"])]
-        kinds = {words[0] for words in near}
-        cause = "a place that was lost" if "waits" in kinds else "a move" if "hold" in kinds else "no cause"
-        found[cause] += 1
-        if cause == "no cause":
-            print("squeezed", name, near)
-    return found
-
-
 def settle(world: Troubled) -> None:
     """What was broken is as it ought to be, and the last agent has some looks."""
     world.stand_still()
@@ -203,12 +174,26 @@ def killed_at_moments(folder: str, seed: int, moments: int) -> None:
         check(f"the {which} was killed", kill(run, which) in (-9, 1), True)
     settle(world)
     world.check_end()
-    found = causes(world)
+    found = count_causes(world.squeezed, world.said(), PINNED, RESERVED)
     check("CPUs of one's own with another one", world.unsafe[:4], [])
-    check("squeezed without a cause", found["no cause"], 0)
+    check("squeezed without a cause, or by a move", [found[cause.value] for cause in (Cause.NONE, Cause.MOVE)], [0, 0])
     check("enough has happened", (world.is_enough(moments), world.did), (True, world.did))
     print(f"troubles, seed {seed}: killed {killed}: {world.looks} looks ({world.torn} torn), {len(world.unsafe)} unsafe; "
-          f"squeezed by {dict(found)}; {world.did}")
+          f"squeezed by {found}; {world.did}")
+
+
+@case
+def causes() -> None:
+    """By which cause one is squeezed, of plans that are told by hand."""
+    before = {name: frozenset(cpus) for name, cpus in {"p0": {1}, "p1": {2}, "s0": {0, 3, 4}, "s1": {0, 3, 4}}.items()}
+    rows: Mapping[str, Cause] = {
+        "hold p0 2,hold p1 1": Cause.RING, "hold p0 5,hold p1 1": Cause.MOVE, "hold p0 2,hold p1 5": Cause.MOVE, "hold p0 3,pool 0-1": Cause.RING,
+        "hold p0 3,pool 0": Cause.MOVE, "waits p0: no place,hold p0 2,hold p1 1": Cause.PLACE, "hold p1 1": Cause.NONE, "pool 0": Cause.NONE,
+    }
+    for text, expected in rows.items():
+        said = text.split(",")
+        lines = [f"0 {line}" for line in ("adopt p0 b 1", "plan total 20", *said, "done", "plan total 0", "done")]
+        check(text, cause_of(Squeeze("p0", before, len("0 adopt p0 b 1\n0 plan")), plans_of(lines), PINNED, RESERVED), expected)
 
 
 @long_case

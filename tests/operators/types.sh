@@ -18,7 +18,7 @@ programs=(numarun-agent numarun-hook numarun-dry-run numarun-explain numarun-dra
 if have mypy mypy; then
     mypy --strict --no-error-summary --cache-dir=/dev/null --scripts-are-modules numarun_host "${programs[@]}"
 fi
-tests=("$top"/tests/operators/{run,trial,sites,worlds,kills,troubles,model,decisions,decided,parts,odd,weeks,mutants,log_words,configured,dashboards,idle,layers,lifts,states}.py)
+tests=("$top"/tests/operators/{run,trial,sites,worlds,kills,troubles,model,decisions,decided,parts,odd,weeks,mutants,log_words,configured,dashboards,idle,layers,lifts,states,partitions,partition_kernel}.py)
 if have mypy mypy; then
     MYPYPATH=. mypy --strict --no-error-summary --cache-dir=/dev/null "${tests[@]}"
 fi

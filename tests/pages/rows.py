@@ -6,8 +6,8 @@ rows.py --text [CRATE [PAGE]]  prints the definitions of specs/, each with its c
 
 docs/claims.md says by hand which rows it has, and in what order. The section of a crate gets the bullets that stand under `# Proved`
 at the heads of its files in src/. A bullet `NAME`, `TYPE::NAME` or `laws::NAME` in it gets the first paragraph of that function's
-doc, of a law all of it, and the comment above each clause. Each public function with such comments has a bullet. A section with
-the line `<!-- by hand -->` stays as it is.
+doc, of a law all of it, and the comment above each clause. Each public function with such comments has a bullet, and so has each
+public function of laws.rt. A section with the line `<!-- by hand -->` stays as it is.
 
 A public definition of specs/ has a comment above it, and a page has one at its head. Those that have none yet are named in
 tests/pages/without-comments, which only gets shorter: a line `CRATE PAGE: NAME..`, where `(head)` stands for the head of the page.
@@ -46,12 +46,14 @@ def crates() -> list[str]:
 
 
 class Source:
-    """What the files of a crate's src/ claim, and of each function what its doc and the comments above its clauses say."""
+    """What the files of a crate's src/ claim, and of each function what its doc and the comments above its clauses say; which of them have
+    such comments, and which are laws."""
 
     def __init__(self, crate: str) -> None:
         self.claims: list[str] = []
         self.functions: dict[str, tuple[str, list[tuple[str, str]]]] = {}
         self.commented: set[str] = set()
+        self.laws: set[str] = set()
         library = TOP / "crates" / crate / "src/lib.rt"
         exported = set(re.findall(r"\w+", library.read_text(encoding="utf-8"))) if library.is_file() else set()
         for path in sorted(library.parent.rglob("*.rt"), key=lambda path: (path != library, path)):
@@ -70,6 +72,8 @@ class Source:
                 self.functions.setdefault(title, says)
                 if found[2] and says[1] and exported & {owner or found[3]}:
                     self.commented.add(title)
+                if found[2] and is_laws:
+                    self.laws.add(title)
 
 
 def plain(text: str) -> str:
@@ -100,13 +104,16 @@ def doc(lines: list[str], at: int, whole: bool) -> str:
 
 
 def clauses(lines: list[str], at: int, indent: str) -> Iterator[tuple[str, str]]:
-    """The name of each clause of a function that has a comment above it, and that comment."""
+    """The name of each clause of a function that has a comment above it, and that comment. A function without a body ends with a semicolon
+    that stands in no braces; one in braces is of a value in a clause, as `record { adopt = true; }`."""
+    depth = 0
     while at < len(lines) and not lines[at].startswith((f"{indent}{{", f"{indent}}}")):
         clause = CLAUSE.match(lines[at])
         text = " ".join(above(lines, at, "// ")) if clause else ""
         if clause and text:
             yield (clause[1] or "").strip(), plain(text)
-        if lines[at].endswith(";"):
+        depth += lines[at].count("{") - lines[at].count("}")
+        if lines[at].endswith(";") and depth == 0:
             break
         at += 1
 
@@ -115,6 +122,7 @@ def section(crate: str, names: list[str]) -> tuple[str, list[str]]:
     """The section of a crate with rows for these functions, and what is missing."""
     source, made = Source(crate), [f"## {crate}", ""]
     wrong = [f"{crate}: {name} has comments above its clauses and no row" for name in sorted(source.commented - set(names))]
+    wrong += [f"{crate}: the law {name} has no row" for name in sorted(source.laws - source.commented - set(names))]
     for claim in source.claims:
         made += wrapped(f"- {claim}", "", "  ")
     for name in names:

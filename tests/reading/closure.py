@@ -4,6 +4,7 @@ closure.py                fails where docs/reading.md or README.md differ from w
 closure.py --write        writes the lists and figures into both, between their markers
 closure.py --list         prints each definition of each clause with its place
 closure.py --text CLAUSE  prints the definitions of one, as check or rebalance, in an order to read them, with comments and texts
+closure.py --size         prints how many mutants, functions and lines of each kind there are
 
 What is followed: the words of the clause, by the `ghost use` lines of its file; of each definition the words of its text,
 by the `use` lines of its page. What a name in a type's declaration stands for (src/) is listed and not followed.
@@ -37,6 +38,7 @@ CLAUSES = [
     ("run_mirrored", "runtime", "mirrored.rt", "run_mirrored", "mirrored"),
     ("boot_mirrored", "runtime", "booting.rt", "boot_mirrored", "site boots mirrored"),
     ("do_run_mirrored", "cli", "mirroring.rt", "do_run_mirrored", ""),
+    ("partitions", "runtime", "laws.rt", "partitions", ""),
 ]
 # Of these only the pages are listed.
 LONG = {"each_rebalance", "scripts_serve_configs", "do_run_mirrored"}
@@ -294,6 +296,7 @@ SAYS = {
     "run_mirrored": "`run --cgroup`: what the tree's files are asked for, and what they then have",
     "boot_mirrored": "that it begins so, at this root and on this machine",
     "do_run_mirrored": "what `run --cgroup` does up to the end of its script, by its arguments, files and streams",
+    "partitions": "`--partition`: no group outside has a container's CPU in effect, if the kernel's rule holds",
 }
 
 
@@ -353,6 +356,35 @@ def print_text(found):
                 print("\n".join([*(f"-- {line}" for line in definition.comment), *definition.text, ""]))
 
 
+# What README.md says of the size: the words there, the files that are looked through, and a line that counts.
+SIZES = [
+    (r"some ([\d,]+) mutants", "*/must-fail/*.edit", r"file: .*"),
+    (r"some ([\d,]+) functions", "*/src/**/*.rt", r" *(pub(\([\w:]+\))? )?(const )?fn \w.*"),
+    (r"functions in ([\d,]+) lines", "*/src/**/*.rt", ".*"),
+    (r"([\d,]+) lines of definitions", "*/specs/**/*.antt", ".*"),
+    (r"([\d,]+) lines of other proofs", "*/proofs/**/*.antt", ".*"),
+]
+NEAR = 0.03  # how far a number that is said may be from what is counted
+
+
+def counted():
+    """How many there are of each."""
+    for _, files, line in SIZES:
+        texts = (path.read_text(encoding="utf-8") for path in (TOP / "crates").glob(files))
+        yield sum(bool(re.fullmatch(line, there)) for text in texts for there in text.splitlines())
+
+
+def sized(text):
+    """README.md with each size that is not near enough made anew by two digits."""
+    for (words, _, _), count in zip(SIZES, counted()):
+        said = re.search(words, text)
+        if not said:
+            sys.exit(f"README.md: no words for {words}")
+        if abs(int(said[1].replace(",", "")) - count) > NEAR * count:
+            text = f"{text[:said.start(1)]}{round(count, 2 - len(str(count))):,}{text[said.end(1):]}"
+    return text
+
+
 def marked(name):
     return f"<!-- {name}: by tests/reading/closure.py -->", f"<!-- end of {name} -->"
 
@@ -377,6 +409,9 @@ def misquoted(text):
 
 
 def main():
+    if "--size" in sys.argv:
+        print("\n".join(words.replace(r"([\d,]+)", f"{count:,}") for (words, _, _), count in zip(SIZES, counted())))
+        return
     found, sections = {}, {}
     seen = {key: set() for key in ("definitions", "declared", "types", "views", "kit")}
     sources, models = Sources(), Models()
@@ -407,6 +442,9 @@ def main():
             if new != text:
                 wrong.append(f"{file}: {name} differs from what the sources say")
             text = new
+        if file == "README.md" and sized(text) != text:
+            wrong.append(f"{file}: a size is not near what is counted")
+            text = sized(text)
         if "--write" in sys.argv:
             path.write_text(text, encoding="utf-8")
     quotes = list(misquoted((TOP / "docs/reading.md").read_text(encoding="utf-8")))

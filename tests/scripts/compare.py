@@ -25,7 +25,7 @@ NO_SETS = ["x", "5-3", "4096", ",", "1,,2", "1-", "0,4095", "4095", "2-1,x"]
 SIGNALS = ["KILL", "SIGKILL", "9", "TERM", "SIGTERM", "15", "HUP", "kill", "0", "09"]
 NUMBERS = ["0", "007", "+5", "-1", "1.0", "4294967295", "4294967296", "99999999999999999999", "0x2", "", "1e1"]
 NO_LINES = [b"foo", b"LIST", b"list a", b"create a", b"create a ba bb", b"fork", b"fork 2 3", b"kill a", b"\xff", b"list \xff",
-            b"start \xc3", b"adopt a b0", b"adopt a b0 1 2", b"adopt a b0 \xff", b"update a", b"update a b0 b1", b"create a \xff", b"phase\0", b"rebalance now", b"x" * 8192, b"x" * 8193, b"list " + b"x" * 8200]
+            b"start \xc3", b"adopt a b0", b"adopt a b0 1 2", b"adopt a b0 \xff", b"update a", b"update a b0 b1", b"create a \xff", b"phase\0", b"rebalance now", b"rebalance direct direct", b"begin direct direct", b"Begin direct", b"begin Direct", b"step direct", b"rebalance dir", b"x" * 8192, b"x" * 8193, b"list " + b"x" * 8200]
 BLANKS = [b"", b" ", b"\t", b"\r", b" \t \r"]
 NAMES = ["no", "../no", "./b0", "b0/", "b0/../b1", "/no/b0", ".", "..", "y" * 8000, "é", "-"]
 ANSWERS = ["pid", "ok", "{", "end", "cpus", "settled"] + ["refused E%d" % number for number in [
@@ -100,7 +100,7 @@ def made_line(cpus, commands):
     command = random.choice(commands)
     name = random.choice(NO_IDS if random.random() < 0.05 else IDS[: random.choice([3, 8])])
     number = random.choice(NUMBERS) if random.random() < 0.08 else None
-    words = [command]
+    words = command.split(" ")
     if command == "create":
         words += [name, random.choice(NAMES) if random.random() < 0.1 else f"b{random.randint(0, 7)}"]
     elif command == "update":
@@ -122,7 +122,7 @@ def made_line(cpus, commands):
 def made_script(cpus):
     often = ["create"] * 5 + ["adopt"] * 4 + ["update"] * 3 + ["start", "kill", "delete", "fork", "fork", "exit", "offline", "online"] * 2
     asked = ["state", "list", "sets", "sets", "phase"]
-    planned = ["rebalance"] * 3 + ["begin"] * 3 + ["step"] * 8 + ["certificate"] * 2
+    planned = ["rebalance"] * 3 + ["begin"] * 3 + ["rebalance direct"] * 3 + ["begin direct"] * 3 + ["step"] * 8 + ["certificate"] * 2
     return [made_line(cpus, often + asked + planned) for _ in range(random.randint(1, 90))]
 
 
@@ -186,7 +186,7 @@ def planning_script(cpus, names):
     """Many containers, and hand-overs with their steps and what comes between them."""
     script = [f"create {name} b{random.randint(0, 7)}".encode() for name in names]
     for _ in range(random.randint(2, 4)):
-        script += [random.choice([b"rebalance", b"begin"])]
+        script += [random.choice([b"rebalance", b"begin", b"rebalance direct", b"begin direct", b"begin direct"])]
         for _ in range(random.randint(1, len(names) + 4)):
             script += [b"step"] * random.randint(1, 4)
             if random.random() < 0.25:

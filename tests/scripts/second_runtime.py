@@ -15,6 +15,7 @@ from collections import Counter
 
 sys.path.insert(0, os.path.join(os.path.dirname(__file__), "..", "certificates"))
 import plain_plan
+from direct_order import HandOver, Host, Live
 from reference import check
 
 CPUS, NODES, CONTAINERS, MOST_TEXT, MOST_LINE = 4096, 128, 1024, 1_048_576, 8192
@@ -357,6 +358,8 @@ class Runtime:
         b"list": (), b"sets": (text,), b"rebalance": (), b"begin": (), b"step": (), b"phase": (), b"certificate": (),
         b"fork": (digits,), b"exit": (digits,), b"offline": (digits,), b"online": (digits,),
     }
+    # Those that take a word that says how.
+    WORDS = {(b"rebalance", b"direct"): "do_rebalance_directly", (b"begin", b"direct"): "do_begin_directly"}
 
     def __init__(self, machine, config_of):
         """`config_of` gives the bytes of a bundle's config, or nothing."""
@@ -367,6 +370,7 @@ class Runtime:
         self.next_pid = FIRST_PID
         self.pool = machine.reserved
         self.underway = None
+        self.direct = False
         self.outcome = None
         self.coming = None
         self.seen = Counter()
@@ -379,6 +383,8 @@ class Runtime:
             words = [word for word in re.split(rb"[ \t\r]", line) if word]
             if not words:
                 return []
+            if tuple(words) in self.WORDS:
+                return getattr(self, self.WORDS[tuple(words)])()
             kinds = self.COMMANDS.get(words[0])
             if kinds is None or len(kinds) != len(words) - 1:
                 raise Refused("E110", "BadLine")
@@ -594,6 +600,12 @@ class Runtime:
         self.seen["several"] += 1 < found[1] < sum(demand for demand, _ in rows)
 
     def do_begin(self):
+        return self.begin(False)
+
+    def do_begin_directly(self):
+        return self.begin(True)
+
+    def begin(self, direct):
         self.settled()
         names, rows, held = self.rows()
         plan, members = self.work_out(names, rows, held)
@@ -606,15 +618,25 @@ class Runtime:
         planned = {name: self.machine.cpus_of(cores) for name, cores in zip(names, plan)}
         self.pool = self.running_cpus - set().union(*planned.values())
         self.underway = [(c, planned.get(name, self.pool)) for name, c in self.containers.items() if self.live(c)]
+        self.direct = direct
         holds = [f"hold {name} {print_list(cpus)}" for name, cpus in planned.items()]
         total = threads * plain_plan.cost_of(rows, plan)
         return [f"plan total {total}"] + holds + [f"pool {print_list(self.pool)}", "end"]
 
     def due(self):
-        """The write of the hand-over that comes next: of those that give CPUs back the first, else the first."""
+        """The write of the hand-over that comes next. In turn it is of those that give CPUs back the first, else the first."""
+        if self.direct:
+            return self.due_directly()
         live = [(c, target) for c, target in self.underway if c.cpus != target and self.live(c)]
         keeps = ((c, c.cpus & (target | self.machine.reserved) or self.machine.reserved) for c, target in live)
         return next(((c, cpus) for c, cpus in itertools.chain(keeps, live) if cpus != c.cpus), None)
+
+    def due_directly(self):
+        live = [(c, target) for c, target in self.underway if self.live(c)]
+        entries = [Live(c.demand.count is not None, frozenset(c.cpus), frozenset(target), frozenset(c.demand.allowed)) for c, target in live]
+        cores = [frozenset(core) for core in self.machine.cores.values()]
+        write = HandOver(entries, Host(frozenset(self.machine.reserved), frozenset(self.running_cpus), cores)).due()
+        return None if write is None else (live[write[0]][0], set(write[1]))
 
     def do_step(self):
         if self.underway is None:
@@ -628,7 +650,13 @@ class Runtime:
         return ["done"]
 
     def do_rebalance(self):
-        answer = self.do_begin()
+        return self.rebalance(False)
+
+    def do_rebalance_directly(self):
+        return self.rebalance(True)
+
+    def rebalance(self, direct):
+        answer = self.begin(direct)
         while self.underway is not None:
             self.do_step()
         return answer

@@ -16,7 +16,7 @@ from compare import list_text, some
 from second_runtime import Machine, Runtime, Wrong, config_of, numbers, print_list
 from transcripts import config, difference, doubted, place, run, unwanted
 
-SCRIPTS = 300
+SCRIPTS = 500
 THREADS = [1, 2, 2, 2, 3, 4, 8]
 # What has to be seen: plans of two rows or more and shortages that were compared with every plan, plans that move some cores and
 # leave others, plans while a core is online in part, sets that were adopted and are not whole, and steps that were not the last.

@@ -1,7 +1,7 @@
 """What a user reads in README.md and on the pages of operators/, typed as it stands: the transcripts, pictures, explanations and dry runs;
 numarun over the kernel's own tree; the installation, the machine file, the agent as its unit starts it, containers by crun and podman, the
 hook, the pool's script, a service, what is given back, and the package. Each command of these pages is typed here, or named as one that
-isn't."""
+isn't; the page of partitions is left to the part `partitions`."""
 
 import json
 import os
@@ -19,7 +19,9 @@ from of_crun import bundle, crun, process
 from tree import ROOT, read, say
 
 TOP, OUT, OUT_OF_AGENT = tree.REPOSITORY, "/tmp/typed", "/tmp/agent"
-OPERATORS = sorted(f"operators/{name}" for name in os.listdir(f"{TOP}/operators") if name.endswith(".md"))
+# Its commands name CPUs that this machine has not, and an image: the part `partitions` does with other CPUs what they do.
+APART = ("partitions.md",)
+OPERATORS = sorted(f"operators/{name}" for name in os.listdir(f"{TOP}/operators") if name.endswith(".md") and name not in APART)
 PAGES = {name: read(f"{TOP}/{name}") for name in ("README.md", *OPERATORS)}
 HERE = {"PATH": "/usr/local/bin:/usr/bin:/bin:/app", "HOME": "/root", "TERM": "dumb"}
 # What is not typed: it wants the toolchain, what makes packages, or a service manager.
@@ -173,7 +175,8 @@ def by_readme():
     """README's lines for an agent, with a container of crun's, and what undoes them."""
     pid, _ = process_of_crun("first", {"quota": 200000, "period": 100000, "mems": "1"})
     assert "hold first 2-3" in typed(command("numarun-agent /etc/numarun/machine.json --runtime")) and tree.allowed(pid) == tree.CPUS, read(OUT)
-    line = command("operators/numarun-agent host.json")
+    assert "hold first 2-3" in typed(command("operators/numarun-agent host.json --runtime")) and tree.allowed(pid) == tree.CPUS, read(OUT)
+    line = command("operators/numarun-agent host.json --cgroup")
     done.add(line)
     agent = begun(line)
     until(agent, lambda: has_own(pid, 2), "README's agent")
@@ -241,7 +244,7 @@ def mask(cpus):
 
 def a_service():
     """A service that is described as a container: it has CPUs of its own, and the other one of its slice has not."""
-    service, other = (watched.group(f"system.slice/{name}.service") for name in ("postgresql", "ssh"))
+    service, other = (watched.group(f"system.slice/{name}.service") for name in ("mariadb", "ssh"))
     for beginning in ("numarun-agent add-service", "mkdir -p /etc/numarun/services", "echo '{\"cgroup-path\"", "echo '{\"ociVersion\""):
         typed(command(beginning))
     agent = begun(of_the_unit(""))
@@ -253,7 +256,11 @@ def a_service():
 
 
 def taken_away():
-    typed(command("operators/install.sh --uninstall /usr/local"))
+    """Not while podman would call the hook; and then all of it."""
+    line = command("operators/install.sh --uninstall /usr/local")
+    assert "hooks.d/numarun.json: no container starts" in typed(line, status=1), read(OUT)
+    typed(command("rm -f /usr/share/containers"))
+    typed(line)
     assert not [name for _, _, names in os.walk("/usr/local") for name in names], list(os.walk("/usr/local"))
 
 
