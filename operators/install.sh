@@ -10,7 +10,8 @@
 # environment names, or the proved one of this checkout, from bash build.sh.
 # Nothing but the unit names PREFIX, so that the rest may be moved. To install again is to bring it up to date: what the last
 # time installed, and this time does not, is taken away. PREFIX/lib/numarun/installed is the list of all that was installed,
-# with the folders that were made for it, which are taken away again where nothing else is in them.
+# with the folders that were made for it, which are taken away again where nothing else is in them. --uninstall refuses while a hook file or a
+# runtime's configuration names a program of PREFIX, because containers would not start without it.
 #
 # --deb makes FOLDER/numarun_VERSION_ARCHITECTURE.deb by debhelper, from what debian/ says, with the same files below /usr, and the folder
 # /etc/numarun. It is installed by dpkg -i and taken away by dpkg -r. Its version is that of CHANGELOG.md.
@@ -62,6 +63,14 @@ folder() {
             made+="$name"$'\n'
         fi
     done
+}
+
+# The files of runtimes that name a program below PREFIX.
+naming() {
+    local path
+    path=$(realpath "$prefix")/bin
+    grep -lsF -e "\"$path/numarun-hook\"" -e "\"$path/numarun-runc\"" /usr/share/containers/oci/hooks.d/*.json \
+        /etc/containers/oci/hooks.d/*.json /etc/docker/daemon.json /etc/containerd/config.toml || true
 }
 
 # Puts one file in its place at once, so that what runs keeps its own: put MODE FROM TO, TO below PREFIX.
@@ -128,9 +137,12 @@ pack() {
 
 if [ -n "$uninstall" ]; then
     [ -f "$list" ] || fail "$list: no such file: nothing is installed there"
+    names=$(naming)
+    [ -z "$names" ] || fail "${names//$'\n'/, }: no container starts by this once the programs are gone: take their names away there first"
     named=$(cat "$list")
     take_away <<< "$named"
-    [ ! -e /run/numarun/taken.json ] || say "the groups have what the agent gave them; operators/numarun-agent --release --cgroup /sys/fs/cgroup gives it back"
+    [ ! -e /run/numarun/taken.json ] && [ ! -e /run/numarun/partition.json ] ||
+        say "the groups have what the agent gave them; operators/numarun-agent release --cgroup /sys/fs/cgroup gives it back"
     exit 0
 fi
 

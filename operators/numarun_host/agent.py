@@ -31,19 +31,21 @@ import subprocess
 import sys
 import tempfile
 import time
-from typing import Callable, Optional, Sequence
+from typing import Callable, Optional, Sequence, Tuple
 
-from .cgroups import EACH, Groups
+from .cgroups import EACH, Groups, read_file, set_in
 from .configs import LEAST, NEAR, PIN, STAY, Pin
 from .configuration import Parser, words_in
-from .cpus import Cpus, print_list
+from .cpus import NO_CPUS, Cpus, print_list, read_list
 from .decide import answer_to_hook, at_the_end, decide, say_pool_end
 from .doing import POOL_SECONDS, Ending, Hands, PoolCommand
 from .hooks import STATUS, Hooks
 from .ledger import Ledger, Settings, is_undone
-from .links import Links
+from .links import CPUS_IN_EFFECT, Links, locked
 from .log import logger
 from .notify import ENDS, READY, WORKS, notify, patience_of_watchdog
+from .partition import Layout
+from .partition_files import PartitionFiles, layout_of, make
 from .pool import POOL_LEAST, is_pool_least, pool_least_of
 from .looking import Eyes
 from .machine import Machine
@@ -114,6 +116,8 @@ class Agent:
         waiter = select.poll()
         for file in [reader, *(self.hooks.files() if self.hooks else []), *([0] if isinstance(self.eyes.source, Input) else [])]:
             waiter.register(file, select.POLLIN)
+        if self.eyes.partition:
+            self.eyes.partition.watch(waiter)
         waiter.poll(pause * 1000)
 
     def finish(self) -> None:
@@ -148,9 +152,13 @@ def words_of(told: Sequence[str]) -> argparse.Namespace:
         words = parser.parse_args([*before, *told])
         words.machine = words.machine or machine
     words.groups = [group.strip("/") or EACH for groups in words.rest for group in groups.split(",") if group]
-    for option, said in (("--rest", words.groups), ("--release", words.release)):
+    for option, said in (("--rest", words.groups), ("--release", words.release), ("--partition", words.partition)):
         if said and not words.cgroup:
             parser.error(f"{option} is of a tree: --cgroup names it")
+    if words.partition and words.groups:
+        parser.error("--rest beside --partition: the kernel keeps the other groups off, and a group beside that requests CPUs of the partition breaks it")
+    if words.system and not words.partition:
+        parser.error("--system is of a partition: --partition names its group")
     if not words.machine and not words.release and not words.version:
         parser.error("no MACHINE")
     words.watches = watches_of(words.runtime, words.watch)
@@ -225,6 +233,9 @@ def add_rest(parser: argparse.ArgumentParser) -> None:
     group = parser.add_argument_group("the rest of the machine")
     group.add_argument("--rest", action="append", default=[], metavar="GROUPS", help="groups of the system itself, with commas between them, as "
                        "system.slice,user.slice,init.scope: they are held on the pool, those that are there; / is each group of the root")
+    group.add_argument("--partition", metavar="GROUP", help="make this group, below the tree's root, a cpuset partition with the machine file's CPUs, "
+                       "from which the kernel keeps all other groups; the containers are below it")
+    group.add_argument("--system", default="", metavar="LIST", help="with --partition: CPUs of the machine file that are left to the system")
     group.add_argument("--pool-least", type=pool_least_text, default=POOL_LEAST, metavar="N", help="newcomers wait rather than bring the pool below "
                        "so many CPUs, or this part of them; of a part two cores are kept at least (%(default)s)")
     group.add_argument("--pool", metavar="COMMAND", help="run this with the pool's list behind it whenever that has changed")
@@ -237,10 +248,43 @@ def add_records(parser: argparse.ArgumentParser) -> None:
     group.add_argument("--keep", type=count_from(1), default=KEPT, metavar="N", help="of the certificates the last N (%(default)s)")
 
 
-def settings_of(words: argparse.Namespace, machine: Machine, root: Optional[str]) -> Settings:
+def settings_of(words: argparse.Namespace, machine: Machine, root: Optional[str], layout: Optional[Layout], system: Cpus) -> Settings:
     return Settings(machine, words.machine, root, Pin(words.pin), words.home == "free", tuple(words.groups),
                     pool_least_of(words.pool_least, machine), words.pause, words.certificates or "", words.textfile or "", bool(words.pool),
-                    words.lift)
+                    layout, system, words.lift)
+
+
+def system_of(words: argparse.Namespace, machine: Machine) -> Cpus:
+    """The CPUs of the machine file that are left to the system."""
+    system = read_list(words.system, "--system")
+    if system - machine.present:
+        raise Refused(f"--system: the machine file has no CPUs {print_list(system - machine.present)}")
+    if any(machine.cores[machine.core_of[cpu]] - system for cpu in system):
+        raise Refused("--system: a core is left to the system in part")
+    if system & machine.reserved:
+        raise Refused(f"--system: CPUs {print_list(system & machine.reserved)} are reserved, so they are the containers' to wait on")
+    return system
+
+
+def partition_of(words: argparse.Namespace, machine: Machine, system: Cpus) -> Tuple[Optional[Layout], Sequence[int]]:
+    """The partition of the containers, which is there by then, and the locks of the tree and of the agent's folder; what was there before is
+    kept in that."""
+    if not words.partition:
+        return None, ()
+    top = os.path.abspath(words.cgroup)
+    layout = layout_of(top, words.partition)
+    if not os.path.isdir(top):
+        raise Refused(f"{words.cgroup}: no folder")
+    os.makedirs(words.work, exist_ok=True)
+    locks = [locked(folder) for folder in (top, words.work)]
+    make(layout, machine.present - system, words.work)
+    return layout, locks
+
+
+def whole_of_tree(top: str, layout: Optional[Layout]) -> Cpus:
+    """The CPUs that a group has which requests none, once there is no partition any more: those of the system too."""
+    found = [set_in(read_file(f"{group}/{CPUS_IN_EFFECT}")) for group in ((top, layout.path) if layout else ())]
+    return NO_CPUS.union(*(cpus or NO_CPUS for cpus in found))
 
 
 def memory_of(machine: Machine, groups: Optional[Groups]) -> Cpus:
@@ -252,18 +296,24 @@ def memory_of(machine: Machine, groups: Optional[Groups]) -> Cpus:
 
 def made(words: argparse.Namespace, machine: Machine, work: str, ending: Ending, clock: Callable[[], float] = time.monotonic) -> Agent:
     """An agent over this machine, with what one before has left."""
-    links = Links(words.cgroup, work) if words.cgroup else None
-    groups = Groups(links.root) if links else None
+    system = system_of(words, machine)
+    layout, locks = partition_of(words, machine, system)
+    links = Links(layout.path if layout else words.cgroup, work, locks) if words.cgroup else None
+    groups = Groups(links.root, os.path.abspath(words.cgroup)) if links else None
     hooks = Hooks(os.path.join(work, "hooks")) if links else None
-    settings = settings_of(words, machine, links.root if links else None)
+    settings = settings_of(words, machine, links.root if links else None, layout, system)
     watches: Sequence[Watch] = words.watches
-    source: Source = Folders(watches, links.root if links else ROOT) if watches else Input()
-    eyes = Eyes(settings, source, words.online, words.nodes, groups, words.group)
+    top = os.path.abspath(words.cgroup) if links else ROOT
+    source: Source = Folders(watches, top) if watches else Input()
+    files = PartitionFiles(layout, work) if layout else None
+    eyes = Eyes(settings, source, words.online, words.nodes, groups, f"{words.partition.strip('/')}/{words.group}" if layout else words.group,
+                partition=files)
     record, memory = read_record(work) if links else Record(""), memory_of(machine, groups)
-    record.whole = whole_machine(machine.present, memory)
+    record.whole = whole_machine(machine.present | whole_of_tree(top, layout), memory)
     ledger = Ledger(settings, memory, taken=record.groups, renewed=record.renewed, before=links.before if links else {})
     hands = Hands(words.program, words.machine, words.slit, work, links, record, Certificates(words.certificates or "", words.keep),
                   words.textfile or "", PoolCommand(words.pool or ""), logger(), ending, words.patience)
+    hands.partition = files
     return Agent(eyes, hands, ledger, hooks, ending, clock)
 
 

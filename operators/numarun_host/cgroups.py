@@ -77,8 +77,8 @@ def is_partition(text: Optional[str]) -> bool:
 class Groups:
     """The groups of a tree. What has not changed since the last look is the same object."""
 
-    def __init__(self, root: str) -> None:
-        self.root = root
+    def __init__(self, root: str, top: Optional[str] = None) -> None:
+        self.root, self.top = root, top or root  # where the containers are, and from where runtimes tell paths
         self.last: Dict[str, Tuple[int, Raw, Group]] = {}
         self.looked_at: Set[str] = set()
 

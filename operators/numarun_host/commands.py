@@ -4,10 +4,13 @@ from __future__ import annotations
 
 from dataclasses import dataclass
 from enum import Enum
-from typing import Generator, Mapping, Optional, Tuple, TypeVar, Union
+from typing import TYPE_CHECKING, Generator, Mapping, Optional, Tuple, TypeVar, Union
 
 from .configs import Config, Limit
 from .cpus import NO_CPUS, Cpus
+
+if TYPE_CHECKING:
+    from .partition import Partition
 
 
 class Verb(Enum):
@@ -97,6 +100,20 @@ class Write:
 
 
 @dataclass(frozen=True)
+class LookAtPartition:
+    """Looks at the partition anew, and at who is below it where it has more than these CPUs."""
+
+    cpus: Cpus
+
+
+@dataclass(frozen=True)
+class MakeGroup:
+    """Makes a group of the partition's layout."""
+
+    path: str
+
+
+@dataclass(frozen=True)
 class SetLimit:
     """Writes the limit of a group, or that it has none, where that is still this group and has the limit before."""
 
@@ -162,20 +179,21 @@ class RunPool:
     cpus: Cpus
 
 
-Command = Union[Start, Ask, Tell, OpenTrial, CloseTrial, Link, Unlink, Drop, Write, SetLimit, SaveTaken, Say, KeepCertificate, LeaveFigures,
-                LeaveState, RunPool]
+Command = Union[Start, Ask, Tell, OpenTrial, CloseTrial, Link, Unlink, Drop, Write, LookAtPartition, MakeGroup, SetLimit, SaveTaken, Say,
+                KeepCertificate, LeaveFigures, LeaveState, RunPool]
 
 
 @dataclass(frozen=True)
 class Answer:
     """The lines of numarun's answer, what it said on standard error, why the system refused what was to be done, whether the agent is told
-    to end, and whether nothing was done, as what was to be replaced is not there any more."""
+    to end, whether nothing was done, as what was to be replaced is not there any more, and what a look at the partition found."""
 
     lines: Tuple[str, ...] = ()
     notes: Tuple[str, ...] = ()
     why: Optional[str] = None
     ending: bool = False
     stale: bool = False
+    partition: Optional[Partition] = None
 
 
 T = TypeVar("T")

@@ -12,6 +12,7 @@ from .ledger import Kind, Ledger, State, Topic, report, say_unsaid
 from .lifting import lift_all
 from .machine import Machine
 from .newcomers import is_held_up, take_all
+from .partitioning import keep_partition, say_loose
 from .plans import arrange
 from .reports import is_news, status_of
 from .script import Refused
@@ -52,8 +53,10 @@ def decide(before: Ledger, look: Look) -> Steps[Ledger]:
 
 
 def settle_the_rest(turn: Turn) -> Steps[None]:
-    """Lets go of the system's groups that are above pinned containers, works out a plan, where one is due, and lifts limits."""
+    """Mends the partition, lets go of the system's groups that are above pinned containers, works out a plan, where one is due, and lifts
+    limits."""
     ledger = turn.ledger
+    yield from keep_partition(turn, is_planned=False)
     if ledger.has_tree:
         yield from let_go(turn)
     if ledger.unmade and ledger.is_over("update", "", turn.now):
@@ -62,6 +65,8 @@ def settle_the_rest(turn: Turn) -> Steps[None]:
         yield from arrange(turn)
     if ledger.has_tree:
         yield from lift_all(turn)
+    yield from keep_partition(turn, is_planned=True)
+    yield from say_loose(ledger, turn.look.partition.loose if turn.look.partition else ())
 
 
 def leave(turn: Turn) -> Steps[None]:
@@ -95,7 +100,8 @@ def figures_of(ledger: Ledger) -> Dict[str, float]:
     pinned, waiting = sum(state.is_pinned for state in states), states.count(State.WAITING)
     squeezed = squeezed_of(ledger)
     return {**ledger.counts, **ledger.times, "containers_pinned": pinned, "containers_waiting": waiting, "containers_shared": len(states) - pinned - waiting,
-            "containers_squeezed": len(squeezed), "undone": len(ledger.problems)}
+            "containers_squeezed": len(squeezed), "undone": len(ledger.problems),
+            "partition_valid": 0 if ledger.problem(Topic.PARTITION) else 1, "loose_processes": len(ledger.loose)}
 
 
 def squeezed_of(ledger: Ledger) -> Set[str]:

@@ -7,7 +7,7 @@ import re
 from typing import Dict, List, Optional, Sequence, Tuple
 
 from .cpus import CPUS, NODES, NO_CPUS, Cpus, print_list
-from .described import UNREACHABLE, Described, say
+from .described import UNREACHABLE, Described, check_system, say
 from .script import Refused
 
 RANGE = "[0-9]{1,4}(-[0-9]{1,4})?"
@@ -132,8 +132,8 @@ def core_fault(cores: Sequence[str], lists: Sequence[Cpus], reserved: Cpus) -> O
     return None
 
 
-def describe_host(folder: str, named: Optional[str], renumber: bool, with_cores: bool) -> Described:
-    """The machine that is told below this folder."""
+def describe_host(folder: str, named: Optional[str], renumber: bool, with_cores: bool, system: Cpus = NO_CPUS) -> Described:
+    """The machine that is told below this folder, but for the system's own CPUs."""
     if named is not None and not LIST.fullmatch(named):
         raise Refused(f"--reserved: {named} is no list of CPUs")
     host = Host(folder)
@@ -142,6 +142,8 @@ def describe_host(folder: str, named: Optional[str], renumber: bool, with_cores:
     lists, rows = [cpus for cpus, _ in told], [[row.get(node, UNREACHABLE) for node in nodes] for _, row in told]
     present = check_present(lists, host)
     cores = host.cores_of(present) if with_cores else []
+    check_system(system, present, host.online, [members(core) for core in cores])
+    lists, present, cores = [cpus - system for cpus in lists], present - system, [core for core in cores if not members(core) & system]
     usable = host.online & present
     reserved = members(named) if named is not None else members(cores[0]) if cores else frozenset({min(usable)})
     if not reserved:

@@ -8,7 +8,7 @@ import xml.etree.ElementTree as xml
 from typing import Dict, List, Optional, Sequence, Set, Tuple
 
 from .cpus import CPUS, NODES, NO_CPUS, Cpus, print_list
-from .described import UNREACHABLE, Described, say
+from .described import UNREACHABLE, Described, check_system, say
 from .script import Refused, read_bytes
 
 MEANS_LATENCY = 4
@@ -195,8 +195,8 @@ def nodes_of(topology: Topology, renumber: bool) -> Sequence[int]:
     return nodes
 
 
-def describe_hwloc(path: str, reserved: Optional[Cpus], renumber: bool, with_cores: bool) -> Described:
-    """The machine that is told in a file of lstopo's."""
+def describe_hwloc(path: str, reserved: Optional[Cpus], renumber: bool, with_cores: bool, system: Cpus = NO_CPUS) -> Described:
+    """The machine that is told in a file of lstopo's, but for the system's own CPUs."""
     topology = Topology(path)
     nodes = nodes_of(topology, renumber)
     present = NO_CPUS.union(*topology.nodes.values())
@@ -208,10 +208,12 @@ def describe_hwloc(path: str, reserved: Optional[Cpus], renumber: bool, with_cor
     if not online:
         raise Refused(f"{path}: no CPU is online")
     cores = cores_of(topology, present) if with_cores else []
+    check_system(system, present, online, cores)
+    present, online, cores = present - system, online - system, [core for core in cores if not core & system]
     reserved = reserved_of(online, cores, reserved)
     if topology.allowed & online != online:
         say(f"hwloc was not allowed the CPUs {print_list(online - topology.allowed)}; they are in the file")
     if topology.unsure:
         say(f"offline, or not allowed to the shell that ran lstopo, which `lstopo --disallowed` tells apart: CPUs {print_list(topology.unsure)}")
-    lists = [topology.nodes.get(node, NO_CPUS) for node in nodes]
+    lists = [topology.nodes.get(node, NO_CPUS) - system for node in nodes]
     return Described(lists, rows_of(topology, nodes), reserved, present - online, [print_list(core) for core in cores])

@@ -8,13 +8,25 @@ import sys
 from dataclasses import dataclass
 from typing import List, Sequence
 
-from .cpus import Cpus, print_list
+from .cpus import NO_CPUS, Cpus, print_list
+from .script import Refused
 
 UNREACHABLE = 255  # a distance that is not told
 
 
 def say(text: str) -> None:
     print(f"{os.path.basename(sys.argv[0])}: {text}", file=sys.stderr)
+
+
+def check_system(system: Cpus, present: Cpus, online: Cpus, cores: Sequence[Cpus]) -> None:
+    """Refuses CPUs that can't be left to the system, out of a machine that has these CPUs and cores."""
+    if system - present:
+        raise Refused(f"--system: CPUs that no node has: {print_list(system - present)}")
+    parts = [core for core in cores if core & system not in (NO_CPUS, core)]
+    if parts:
+        raise Refused(f"--system: the core {print_list(parts[0])} is left to the system in part")
+    if not online & present - system:
+        raise Refused("--system: no CPU that is online is left to containers")
 
 
 @dataclass(frozen=True)

@@ -14,12 +14,13 @@ import time
 from typing import Callable, Dict, List, Optional, Tuple, Type
 
 from .cgroups import LIMIT, limit_in, read_file
-from .commands import (Answer, Ask, CloseTrial, Command, Drop, KeepCertificate, LeaveFigures, LeaveState, Link, OpenTrial, RunPool, SaveTaken, Say,
-                       SetLimit, Start, Steps, T, Tell, Unlink, Verb, Write)
+from .commands import (Answer, Ask, CloseTrial, Command, Drop, KeepCertificate, LeaveFigures, LeaveState, Link, LookAtPartition, MakeGroup,
+                       OpenTrial, RunPool, SaveTaken, Say, SetLimit, Start, Steps, T, Tell, Unlink, Verb, Write)
 from .cpus import print_list
 from .links import CPUS_IN_EFFECT, NODES_IN_EFFECT, Links
 from .log import say
 from .machine import parse_machine
+from .partition_files import PartitionFiles
 from .program import Run
 from .records import LAST_STATE, Certificates, leave_figures, leave_state
 from .script import Refused
@@ -103,11 +104,12 @@ class Hands:
         self.certificates, self.figures, self.pool, self.log, self.ending, self.patience = certificates, figures, pool, log, ending, patience
         self.run: Optional[Run] = None
         self.trial: Optional[Run] = None
+        self.partition: Optional[PartitionFiles] = None
         self.ways: Dict[Type[object], Callable[..., Answer]] = {
             Start: self.start, Ask: self.ask, Tell: self.tell, OpenTrial: self.open_trial, CloseTrial: self.close_trial, Link: self.link,
             Unlink: self.unlink, Drop: self.drop, Write: self.write, SetLimit: self.set_limit, SaveTaken: self.save_taken, Say: self.say,
             KeepCertificate: self.keep_certificate, LeaveFigures: self.leave_figures, LeaveState: self.leave_state,
-            RunPool: self.run_pool}
+            RunPool: self.run_pool, LookAtPartition: self.look_at_partition, MakeGroup: self.make_group}
 
     def do(self, command: Command) -> Answer:
         return self.ways[type(command)](command)
@@ -200,6 +202,12 @@ class Hands:
 
     def write(self, command: Write) -> Answer:
         return Answer(why=write_file(os.path.join(command.path, command.file), command.text))
+
+    def look_at_partition(self, command: LookAtPartition) -> Answer:
+        return Answer(partition=self.partition.sight(command.cpus) if self.partition else None)
+
+    def make_group(self, command: MakeGroup) -> Answer:
+        return Answer(why=self.partition.make_group(command.path) if self.partition else None)
 
     def set_limit(self, command: SetLimit) -> Answer:
         try:

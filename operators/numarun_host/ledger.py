@@ -11,6 +11,7 @@ from .commands import Command, Level, Say, Steps, Taken
 from .configs import Config, Demand, Limit, Pin, stays
 from .cpus import NO_CPUS, Cpus
 from .machine import Machine
+from .partition import Layout
 from .seen import Found, Group, Stamp, Told
 
 MOST_PAUSES = 64  # times the first one
@@ -112,6 +113,8 @@ class Topic(Enum):
     DRIFT = "drift"
     SQUEEZED = "squeezed"
     LIMIT = "limit"
+    PARTITION = "partition"
+    RESIZE = "resize"
     UNSEEN = "unseen"
     SLICE = "slice"
     PROCESSES = "processes"
@@ -136,6 +139,8 @@ class Kind(Enum):
     FAILED = "failed"
     DRIFT = "drift"
     SQUEEZED = "squeezed"
+    OUTSIDE = "outside"
+    PARTITION = "partition"
 
 
 FULL = (Kind.WAITS, Kind.KEEPS, Kind.FEWER)  # what a full machine leaves undone
@@ -182,6 +187,8 @@ class Settings:
     certificates: str = ""
     figures: str = ""
     pool: bool = False
+    partition: Optional[Layout] = None  # that of the containers, whose group the root is
+    system: Cpus = NO_CPUS  # CPUs of the machine file that are left to the system, outside of the partition
     lift: bool = False  # whether one that has CPUs of its own has no limit
 
 
@@ -215,11 +222,13 @@ class Ledger:
     due: bool = False     # whether a plan is to be worked out though nothing happened
     unmade: bool = False  # whether an update was not made, since a write failed
     spent: bool = False   # whether numarun has no pids left, so that a new run is wanted
+    direct: bool = True   # whether numarun knows direct hand-overs, as far as it was asked
     started: bool = False
     wrong: bool = False   # whether there was an event that was refused
     ending: bool = False
     notes: Tuple[str, ...] = ()
     silent: Dict[str, Tuple[int, str]] = field(default_factory=dict)  # by a watched folder why it has no containers, and for how many looks
+    loose: FrozenSet[Tuple[int, str]] = frozenset()  # processes outside of the partition that may run there, as they were said
     titles: Mapping[str, str] = field(default_factory=dict)
     counts: Dict[str, int] = field(default_factory=lambda: dict.fromkeys(COUNTERS, 0))
     times: Dict[str, float] = field(default_factory=lambda: dict.fromkeys(TIMES, 0.0))
@@ -304,5 +313,5 @@ def say_unsaid(ledger: Ledger) -> List[Command]:
 
 def is_undone(ledger: Ledger, told_to_end: bool) -> bool:
     """Whether something is left undone that the exit status names: of one that was told to end, no container that has no room."""
-    left = [problem for problem in ledger.problems.values() if not (told_to_end and problem.kind in FULL)]
+    left = [problem for problem in ledger.problems.values() if problem.kind is not Kind.OUTSIDE and not (told_to_end and problem.kind in FULL)]
     return bool(ledger.wrong or ledger.due or left)

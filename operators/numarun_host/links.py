@@ -7,7 +7,7 @@ import fcntl
 import os
 import shutil
 import time
-from typing import Dict, List, Optional, Tuple
+from typing import Dict, List, Optional, Sequence, Tuple
 
 from .cpus import Cpus, print_list
 from .script import Refused
@@ -16,13 +16,27 @@ PATIENCE = 5  # seconds that the run of an agent that was killed has to end
 CPUS_IN_EFFECT, NODES_IN_EFFECT = "cpuset.cpus.effective", "cpuset.mems.effective"  # what numarun compares at its start
 
 
+def locked(folder: str) -> int:
+    """A lock that a run of numarun inherits, so that the next agent waits for it."""
+    file, until = os.open(folder, os.O_RDONLY | os.O_DIRECTORY), time.monotonic() + PATIENCE
+    while True:
+        try:
+            fcntl.flock(file, fcntl.LOCK_EX | fcntl.LOCK_NB)
+            return file
+        except BlockingIOError:
+            if time.monotonic() > until:
+                raise Refused(f"{folder}: another agent or program has it") from None
+            time.sleep(0.05)
+
+
 class Links:
-    def __init__(self, root: str, work: str) -> None:
+    def __init__(self, root: str, work: str, held: Sequence[int] = ()) -> None:
+        """`held` are the locks of the agent's folder, and of a tree in which the root is a group."""
         self.root = os.path.abspath(root)
         if not os.path.isdir(self.root):
             raise Refused(f"{root}: no folder")
         os.makedirs(work, exist_ok=True)
-        self.locks: List[int] = [self.locked(folder) for folder in (self.root, work)]
+        self.locks: List[int] = [*held, *(locked(folder) for folder in (self.root, *(() if held else (work,))))]
         shutil.rmtree(os.path.join(work, "bundles"), ignore_errors=True)
         self.folder = os.path.join(work, "tree")
         self.links = os.path.join(self.folder, "numarun")
@@ -32,19 +46,6 @@ class Links:
         for name in self.before:
             self.unlink(name)
         self.link_file("cgroup.controllers")
-
-    @staticmethod
-    def locked(folder: str) -> int:
-        """A lock that a run of numarun inherits, so that the next agent waits for it."""
-        file, until = os.open(folder, os.O_RDONLY | os.O_DIRECTORY), time.monotonic() + PATIENCE
-        while True:
-            try:
-                fcntl.flock(file, fcntl.LOCK_EX | fcntl.LOCK_NB)
-                return file
-            except BlockingIOError:
-                if time.monotonic() > until:
-                    raise Refused(f"{folder}: another agent or program has it") from None
-                time.sleep(0.05)
 
     def link_file(self, name: str) -> None:
         link, path = os.path.join(self.folder, name), os.path.join(self.root, name)

@@ -13,6 +13,7 @@ from .devices import node_of_device
 from .homes import FreeMemory, free_memory
 from .ledger import Ledger, Settings
 from .names import Names
+from .partition_files import PartitionFiles
 from .script import Refused, read_text
 from .seen import Found, Group, Look, Missing, NoGroup, Online, Stamp, Told
 from .sources import Source
@@ -24,9 +25,9 @@ class Eyes:
     """What looks at a machine, and what it keeps from look to look."""
 
     def __init__(self, settings: Settings, source: Source, online: Optional[str], nodes: str, groups: Optional[Groups], parent: str,
-                 sysfs: str = "/sys") -> None:
+                 sysfs: str = "/sys", partition: Optional[PartitionFiles] = None) -> None:
         self.settings, self.source, self.online_path, self.nodes, self.groups, self.parent = settings, source, online, nodes, groups, parent
-        self.sysfs = sysfs
+        self.sysfs, self.partition = sysfs, partition
         self.configs: Dict[str, Tuple[Stamp, Config]] = {}
         self.found: Dict[str, Found] = {}
         self.names = Names()
@@ -52,7 +53,7 @@ class Eyes:
         wrong, events = tuple(self.source.wrong), tuple(self.source.events)
         self.source.wrong, self.source.events = [], []
         return Look(now, told, groups, self.online, events, wrong, self.memory(), slices, below, busy, self.source.folders, self.source.doubles,
-                    self.names.titles(self.source.told, ledger.containers), fault)
+                    self.names.titles(self.source.told, ledger.containers), fault, self.partition.look(now) if self.partition else None)
 
     # Containers.
 
@@ -72,6 +73,8 @@ class Eyes:
             place = self.place(ledger, name, stamp, config, told)
         except Refused as why:
             return Missing(told, str(why), in_parts=True)
+        if self.partition and not place.startswith(f"{self.partition.layout.path}/"):
+            return Missing(told, f"its group is not below {self.partition.layout.path}; it runs on the system's CPUs", outside=True)
         group = self.groups.look_at(place) if self.groups else Group(place, 0)
         if isinstance(group, NoGroup):
             return Missing(told, group.why)
@@ -96,7 +99,7 @@ class Eyes:
         container = ledger.containers.get(name)
         if container and container.seen.stamp == stamp:
             return container.seen.group.path
-        return group_path(self.groups.root, self.parent, name, config, told.folder, told.group) if self.groups else ""
+        return group_path(self.groups.top, self.parent, name, config, told.folder, told.group) if self.groups else ""
 
     # Groups.
 
@@ -124,6 +127,7 @@ class Eyes:
             listed = read_list(read_text(self.online_path, LIST_BYTES), self.online_path)
         else:
             listed = machine.present - machine.offline
+        listed -= self.settings.system
         there = listed if effective is None else listed & effective
         strange = (listed if effective is None else effective) - machine.present
         return Online(there & machine.present, strange, (listed - there) & machine.present, not self.online_path)

@@ -9,7 +9,7 @@ from .configs import staying
 from .cpus import NO_CPUS, print_list
 from .ledger import Kind, Ledger, State, Topic, report
 from .room import Outcome, ease, make_room, outcome_of, say_fewer, spare_the_pool
-from .telling import Turn, ask, requested, tell_update
+from .telling import BAD_LINE, Turn, ask, requested, tell_update
 
 LOCAL = 10
 
@@ -32,9 +32,9 @@ def plan(turn: Turn) -> Steps[None]:
     """Works out a plan, and hands over to it."""
     ledger = turn.ledger
     yield from spare_the_pool(turn)
-    outcome = outcome_of((yield from ask(ledger, Ask("begin"))))
+    outcome = yield from begin(ledger)
     while outcome.shortage and not ledger.ending and (yield from ease(turn, outcome.shortage)):
-        outcome = outcome_of((yield from ask(ledger, Ask("begin"))))
+        outcome = yield from begin(ledger)
     yield from say_fewer(turn)
     if ledger.settings.certificates:
         yield from keep_certificate(ledger)
@@ -53,6 +53,17 @@ def plan(turn: Turn) -> Steps[None]:
     moves = sum(len(cpus - (ledger.containers[name].cpus or NO_CPUS)) for name, cpus in outcome.holds.items())
     if (yield from hand_over(turn, outcome)):
         count_plan(ledger, outcome, moves)
+
+
+def begin(ledger: Ledger) -> Steps[Outcome]:
+    """Begins a direct hand-over to a plan; by a program that knows none, which is said once, one in turn."""
+    if ledger.direct:
+        reply = yield from ask(ledger, Ask("begin direct"))
+        if reply.fault != BAD_LINE:
+            return outcome_of(reply)
+        ledger.direct = False
+        yield Say("note this numarun knows no direct hand-overs, so containers run on the reserved CPUs while they move", Level.NOTICE)
+    return outcome_of((yield from ask(ledger, Ask("begin"))))
 
 
 def keep_certificate(ledger: Ledger) -> Steps[None]:

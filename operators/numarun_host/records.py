@@ -28,6 +28,8 @@ FIGURES = {
     "containers_squeezed": ("gauge", "pinned containers that have not in effect what they were given"),
     "waited_seconds_total": ("counter", "seconds that containers waited for room, those of each added up"),
     "squeezed_seconds_total": ("counter", "seconds that pinned containers had not in effect what they were given, those of each added up"),
+    "partition_valid": ("gauge", "1 where the containers need be in no partition, or are in a valid one"),
+    "loose_processes": ("gauge", "processes of the root group that may run on CPUs of the partition"),
     "undone": ("gauge", "what is left undone, of containers, plans, writes and the look at the machine"),
     "look_timestamp_seconds": ("gauge", "when the machine was last looked at"),
 }

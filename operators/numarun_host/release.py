@@ -1,5 +1,6 @@
 """Gives back what an agent took: each group requests again what it did before, or all CPUs and nodes where the kernel takes no empty
-list of a group that has processes. No agent may run meanwhile."""
+list of a group that has processes. The partition comes first, since a group can request the system's CPUs only behind that. No agent may
+run meanwhile."""
 
 from __future__ import annotations
 
@@ -9,13 +10,20 @@ from typing import Optional, Sequence
 from .cgroups import LIMIT, limit_in, read_file
 from .commands import Taken
 from .links import CPUS_IN_EFFECT, NODES_IN_EFFECT, Links
+from .partition_files import give_back as give_partition_back
 from .slices import FILES
 from .taken import Whole, read_record, write_file, write_limit
 
 
 def release(root: str, work: str, slices: Sequence[str]) -> int:
     """Says what was given back; 1 where a write was refused."""
-    links, record, status = Links(root, work), read_record(work), 0
+    links, record = Links(root, work), read_record(work)
+    said = give_partition_back(work)
+    for line in said:
+        print(line)
+    status = 1 if any(line.startswith("failed ") for line in said) else 0
+    if said and not status:
+        record.whole = (read_file(f"{links.root}/{CPUS_IN_EFFECT}"), record.whole[1])
     if not all(text not in (None, "-") for text in record.whole):
         record.whole = (read_file(f"{links.root}/{CPUS_IN_EFFECT}") or "", read_file(f"{links.root}/{NODES_IN_EFFECT}") or "")
     more = [path for path in (os.path.join(links.root, name) for name in slices) if os.path.isdir(path)]

@@ -7,6 +7,7 @@ from typing import FrozenSet, Mapping, Optional, Tuple, Union
 
 from .configs import Config, Limit
 from .cpus import NO_CPUS, Cpus
+from .partition import Partition
 
 
 @dataclass(frozen=True)
@@ -68,11 +69,13 @@ class Found:
 
 @dataclass(frozen=True)
 class Missing:
-    """Why a container can't be told of: its config, or its group, is not there. A config in parts is one that is there, and no JSON."""
+    """Why a container can't be told of: its config, or its group, is not there. A config in parts is one that is there, and no JSON.
+    Its group is outside of the partition where it is in no group below that of the containers."""
 
     told: Told
     why: str
     in_parts: bool = False
+    outside: bool = False
 
 
 @dataclass(frozen=True)
@@ -127,6 +130,7 @@ class Look:
     doubles: Tuple[Double, ...] = ()
     titles: Mapping[str, str] = field(default_factory=dict)
     fault: Optional[str] = None
+    partition: Optional[Partition] = None
     pool_command: Optional[str] = None  # that of --pool, as it was run last, where it has ended since the last look
     pool_fault: Optional[str] = None    # and why it failed
 

@@ -50,7 +50,11 @@ def see(turn: Turn, name: str, found: Union[Found, Missing]) -> Steps[None]:
     if isinstance(found, Found):
         turn.there[name] = sighting_of(ledger, name, found)
         ledger.settle(Topic.STAYS, name)
-        ledger.settle(Topic.CONTAINER, name, Kind.ABSENT)
+        ledger.settle(Topic.CONTAINER, name, Kind.ABSENT, Kind.OUTSIDE)
+        return
+    if found.outside:
+        ledger.settle(Topic.STAYS, name)
+        yield from report(ledger, Topic.CONTAINER, name, Kind.OUTSIDE, f"{ledger.title(name)}: {found.why}")
         return
     container = ledger.containers.get(name)
     if container and found.in_parts and not ledger.has_tree:

@@ -13,7 +13,7 @@ from .cpus import Cpus, read_list
 from .ledger import Kind, Ledger, Sighting, Topic, report
 from .seen import Group, Look
 
-NO_PIDS, KERNEL_FAULT, NOT_FREE, NO_BUNDLE = 45, 50, 104, 111
+NO_PIDS, KERNEL_FAULT, NOT_FREE, BAD_LINE, NO_BUNDLE = 45, 50, 104, 110, 111
 CONFIG_FAULTS = range(55, 68)  # a config that can't be had
 
 
