@@ -4,11 +4,11 @@
 # are only unpacked. Where it can't, it says so and is passed over. PROGRAM and TOOLS in the environment are run in place of those that this
 # builds. PARTS are the parts of linux/parts/ that are run, behind a slash which share of their work is done: `killed/4` is every
 # fourth call. MACHINES of them run side by side, SEED chooses what is random, KERNEL is an image in place of Debian's, LIMIT the
-# seconds that a machine has, and KEEP a folder for all that the machines print.
+# seconds that a machine has, KEEP a folder for all that the machines print, and CPUS how many CPUs it has in place of 8, for `direct`.
 set -euo pipefail
 top=$(cd "$(dirname "$0")/.." && pwd)
 parts=(${PARTS:-gone strangers calls/4 refused/4 killed/4})
-seed=${SEED:-1}
+seed=${SEED:-1} cpus=${CPUS:-8}
 work=$(mktemp -d)
 trap 'rm -rf "$work"' EXIT
 
@@ -27,7 +27,7 @@ has() {
 }
 
 inside=crun desk='' packages='' daemons='' libraries='' megabytes=320
-! has podman walk || inside+=" podman conmon"
+! has podman walk || inside+=" podman conmon catatonit"
 ! has runc containerd docker || inside+=" runc"
 ! has docker || inside+=" dash"
 ! has walk || desk=--desk
@@ -83,9 +83,10 @@ for part in "${parts[@]}"; do
     fi
 done
 (cd "$root" && find . | cpio -o -H newc --quiet | gzip -1) >"$work/initrd.gz"
-nodes=()
+nodes=() each=$((cpus / 4))
 for node in 0 1 2 3; do
-    nodes+=(-object "memory-backend-ram,id=m$node,size=${megabytes}M" -numa "node,nodeid=$node,memdev=m$node,cpus=$((2 * node))-$((2 * node + 1))")
+    range=$((each * node))-$((each * (node + 1) - 1))
+    nodes+=(-object "memory-backend-ram,id=m$node,size=${megabytes}M" -numa "node,nodeid=$node,memdev=m$node,cpus=$range")
 done
 for row in 0,1,20 0,2,20 0,3,30 1,2,30 1,3,20 2,3,20; do
     IFS=, read -r from to distance <<<"$row"
@@ -100,7 +101,7 @@ emulate() {
     mkdir "$work/$number"
     echo "$seed $*" >"$work/$number/parts"
     { cat "$work/initrd.gz"; cd "$work/$number" && echo parts | cpio -o -H newc --quiet | gzip -1; } >"$work/initrd-$number.gz"
-    timeout "${LIMIT:-900}" qemu-system-x86_64 -M q35 -cpu max -accel tcg,thread=multi -m $((4 * megabytes)) -smp 8,sockets=4,cores=2,threads=1 \
+    timeout "${LIMIT:-900}" qemu-system-x86_64 -M q35 -cpu max -accel tcg,thread=multi -m $((4 * megabytes)) -smp "$cpus,sockets=4,cores=$each,threads=1" \
         "${nodes[@]}" -nodefaults -display none -serial stdio -no-reboot -kernel "$kernel" -initrd "$work/initrd-$number.gz" \
         -append "console=ttyS0 quiet panic=-1 loglevel=1 mitigations=off no_timer_check rdinit=/init" </dev/null 2>&1 |
         sed -u 's/\r$//' | tee "$work/out-$number" | grep -a --line-buffered '^linux: ' || true

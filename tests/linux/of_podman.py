@@ -17,6 +17,7 @@ events_logger = "file"
 no_pivot_root = true
 runtime = "crun"
 conmon_path = ["/app/conmon"]
+helper_binaries_dir = ["/app"]
 [engine.runtimes]
 crun = ["/app/crun"]
 """, "storage.conf": """[storage]

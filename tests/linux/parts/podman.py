@@ -1,6 +1,6 @@
 """Containers that podman runs by crun, and the agent over crun's state: who names CPUs is adopted where podman put it, who names no nodes
 of memory gets a home, podman update is followed, a restart is seen, and all is given back; podman's hook waits for the agent; and
-containers in slices that are held on the pool have in effect what they request, and nobody else has it."""
+containers in pods, and in slices that are held on the pool, have in effect what they request, and nobody else has it."""
 
 import json
 import os
@@ -72,6 +72,24 @@ def before_its_first_instruction():
     agent.end()
 
 
+def in_a_pod():
+    """The group of a pod is podman's, and its members' lie below it, the infra container's too: one has CPUs of its own, whoever shares its pod."""
+    agent = watched.Agent(watch=STATE)
+    podman("pod", "create", "--name", "duo", "--network", "none", "--exit-policy", "continue")
+    db, group = begin("db", "--pod", "duo", "--cpus", "2", "--stop-timeout", "0")
+    web, other = begin("web", "--pod", "duo", "--stop-timeout", "0")
+    assert os.path.dirname(group) == os.path.dirname(other) != "", (group, other)
+    agent.until(lambda: at_home(db, group, 2) and not tree.allowed(web) & tree.allowed(db), "a container of a pod")
+    podman("pod", "restart", "duo")
+    (db, group), (web, _) = process("db"), process("web")
+    agent.until(lambda: at_home(db, group, 2) and not tree.allowed(web) & tree.allowed(db), "podman pod restart")
+    podman("pod", "rm", "-f", "-t", "0", "duo")
+    agent.until(lambda: sum(line.startswith("ended db(") for line in watched.lines()) == 2, "podman pod rm")
+    agent.end()
+    done = watched.release()
+    assert not done.returncode, done
+
+
 def everybody():
     """Each group below the root that has processes: what it has in effect, and where each of these may run, by the kernel's files alone."""
     found = {}
@@ -129,7 +147,8 @@ prepare()
 prepare_hooks()
 lifecycle()
 before_its_first_instruction()
+in_a_pod()
 in_slices()
 assert "Traceback" not in read(watched.OUT), read(watched.OUT)[-2000:]
-say(f"podman: {podman('--version')}: seven containers; a home, podman update, a restart, what is given back, a hook that waits, and slices")
+say(f"podman: {podman('--version')}: nine containers; a home, podman update, a restart, what is given back, a hook that waits, a pod, and slices")
 tree.clear()
