@@ -116,7 +116,7 @@ def on_a_real_kernel():
     ask(f"create packets {containers.bundle('packets', allowed='4-5')}", "pid")
     pid = tree.spawn(ROOT)
     assert tree.allowed(pid) == tree.CPUS
-    session = re.search(r"^```console\n(.*?)^```", PAGES["README.md"], re.M | re.S)[1].replace("421", str(pid)).splitlines()
+    session = re.search(r"^```console\n(.*?)^```", read(f"{TOP}/docs/formats.md"), re.M | re.S)[1].replace("421", str(pid)).splitlines()
     found, places = [], []
     for line in session:
         if line.startswith(("$ ", "> ")):
@@ -181,7 +181,6 @@ def by_readme():
     agent = begun(line)
     until(agent, lambda: has_own(pid, 2), "README's agent")
     assert tree.allowed(pid) == {2, 3}
-    assert typed(command("operators/numarun-dry-run host.json")).startswith("new would have 4"), read(OUT)
     ended(agent)
     typed(command("operators/numarun-agent release"))
     assert tree.allowed(pid) == tree.CPUS, read(OUT)
