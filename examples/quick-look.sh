@@ -2,8 +2,8 @@
 # A plan on a recorded machine in one to three minutes: quick-look.sh [MACHINE [SCRIPT]]
 #
 # Builds the program without its proofs and runs a script over a machine file, which are a machine of two sockets and
-# examples/scripts/plans where none are named. Wants the Rattle kit alone. For the proved program, which takes a quarter
-# to half an hour once: bash build.sh, which leaves it as crates/numarun/out/numarun.
+# examples/scripts/plans where none are named. Wants the Rattle kit, and Python 3.9 or later for it. For the proved program,
+# which takes up to an hour once: bash build.sh, which leaves it as crates/numarun/out/numarun.
 #
 # Each command is printed, behind `>`, before its answer.
 #

@@ -187,6 +187,17 @@ numarun-describe: node 1 is at 0 from itself; written is 10, as a machine file h
 numarun-describe: left out, as no node has them: CPUs 0
 numarun-describe: reserved CPUs that are not online: 0' refused --reserved 0-1
 
+# CPUs of `isolcpus=` are said, but for those that are left out; where there are none the kernel's line is empty.
+tree isolated 0-3 0-3
+node 0 "10" 0 1 2 3
+nodes 0
+echo > "$scratch/isolated/cpu/isolated"
+says '' notes
+echo 2-3 > "$scratch/isolated/cpu/isolated"
+says 'numarun-describe: no load is balanced among CPUs 2-3: boot without isolcpus=, or leave them out by --system' notes
+says 'numarun-describe: no load is balanced among CPUs 3: boot without isolcpus=, or leave them out by --system' notes --system 2
+says '' notes --system 2-3
+
 # What is no machine file is not written: the first refusal is the last line.
 bad() {
     local line=$1

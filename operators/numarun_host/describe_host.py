@@ -49,6 +49,11 @@ class Host:
             raise Refused(f"{self.path(name)}: {text[:40]} is no list")
         return text
 
+    def isolated(self) -> Cpus:
+        """The CPUs of `isolcpus=`, among which the scheduler balances no load; Linux tells an empty line where there are none."""
+        text = self.line_of("cpu/isolated") if self.has("cpu/isolated") else ""
+        return members(text) if LIST.fullmatch(text) else NO_CPUS
+
     def cpus_of(self, node: int) -> Cpus:
         """The CPUs of a node: offline ones too, which its own list leaves out."""
         if not self.has_nodes:
@@ -144,6 +149,8 @@ def describe_host(folder: str, named: Optional[str], renumber: bool, with_cores:
     cores = host.cores_of(present) if with_cores else []
     check_system(system, present, host.online, [members(core) for core in cores])
     lists, present, cores = [cpus - system for cpus in lists], present - system, [core for core in cores if not members(core) & system]
+    if host.isolated() & present:
+        say(f"no load is balanced among CPUs {print_list(host.isolated() & present)}: boot without isolcpus=, or leave them out by --system")
     usable = host.online & present
     reserved = members(named) if named is not None else members(cores[0]) if cores else frozenset({min(usable)})
     if not reserved:

@@ -308,6 +308,8 @@ def listing(title, found, seen):
         fresh = [name for name in names if (crate, page, name) in new["definitions"]]
         if fresh:
             pages.append((crate, page, fresh))
+    yield f"List `{title}`:"
+    yield ""
     if title in LONG:
         of_crate = {}
         for crate, page, _ in pages:
