@@ -88,7 +88,7 @@ class Groups:
             inode = os.stat(path).st_ino
         except (OSError, ValueError):
             return NoGroup(f"{path}: no such group")
-        raw: Raw = tuple([read_raw(f"{path}/{file}") for file in READ])
+        raw: Raw = tuple(map(read_raw, [f"{path}/{file}" for file in READ]))
         before = self.last.get(path)
         if before and before[0] == inode and before[1] == raw:
             return before[2]

@@ -574,6 +574,20 @@ def figures() -> None:
 
 
 @case
+def figures_now_and_then() -> None:
+    """Figures are left at the first look, where one is another one, and else five seconds behind the last time."""
+    ledger, left = ledger_of(figures="/figures"), []
+    for now in (10.0, 11.0, 14.9, 15.0, 16.0):
+        commands, ledger = looked(ledger, now=now)
+        left.append(sum(isinstance(command, LeaveFigures) for command in commands))
+    check("the same figures", left, [1, 0, 0, 1, 0])
+    ledger.counts["steps_total"] += 1
+    commands, ledger = looked(ledger, now=16.5)
+    check("others", [command.figures["steps_total"] for command in commands if isinstance(command, LeaveFigures)], [1])
+    check("and no more", [command for command in looked(ledger, now=17.0)[0] if isinstance(command, LeaveFigures)], [])
+
+
+@case
 def hooks() -> None:
     """A hook is answered once it is decided: pinned, shared, no place, refused."""
     waits = Problem(Kind.WAITS, "w", "w: no place")
