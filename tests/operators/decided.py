@@ -3,14 +3,16 @@ system are held, what is counted and kept, and what is said. Expected values are
 
 from __future__ import annotations
 
+import contextlib
 import dataclasses
 import json
 import os
+import re
 from typing import Any, Dict, List, Mapping, Optional, Sequence, Tuple
 
 from trial import case, check, scratch, written
-from numarun_host import configs, homes, placing, sightings, slices
-from numarun_host.commands import Answer, Ask, Command, LeaveFigures, RunPool, SaveTaken, Say, Start, Steps, T, Taken, Tell, Write
+from numarun_host import configs, homes, log, placing, pool, sightings, slices
+from numarun_host.commands import Answer, Ask, Command, LeaveFigures, Level, RunPool, SaveTaken, Say, Start, Steps, T, Taken, Tell, Write
 from numarun_host.configs import Demand, Pin
 from numarun_host.cpus import Cpus, print_list, read_list
 from numarun_host.decide import answer_to_hook, decide, figures_of, reserved_of, squeezed_of
@@ -209,6 +211,8 @@ def near_nodes() -> None:
     flat = machine_of({name: member for name, member in FOUR.items() if name != "distances"})
     check("no distances", homes.home_of(flat, {}, 8, cpus("4-15"), nine), cpus("1-2"))
     check("one node", homes.home_of(machine_of(EIGHT), {}, 2, cpus("1-7"), {}), None)
+    row = machine_of({"nodes": ["0-1", "2-3", "4-5", "6-7"], "distances": [[10 + 5 * abs(a - b) for b in range(4)] for a in range(4)], "reserved": "0"})
+    check("two that are whole, and not three in the order of distance", homes.home_of(row, {}, 4, cpus("1,2-3,4-5,7"), nine), cpus("1-2"))
     no_cpus = machine_of({"nodes": ["0-3", "", "4-7"], "reserved": "0"})
     check("a node without CPUs", homes.home_of(no_cpus, {}, 5, cpus("1-7"), {}), cpus("0,2"))
 
@@ -283,6 +287,44 @@ def homes_said() -> None:
         ledger = ledger_of(one)
         commands, _ = done(placing.say_home(ledger, "a"))
         check(f"the home of {config} {demand} {had}", (said(commands), ledger.containers["a"].home), expected)
+
+
+# What is said.
+
+
+@case
+def lines_of_the_log() -> None:
+    """A line has its time before it, or its priority where standard output is journald's stream; what is no printable sign is escaped."""
+    before = os.environ.pop("JOURNAL_STREAM", None)
+    for journal in (False, True):
+        with open(scratch("stream"), "w+", encoding="utf-8") as stream, contextlib.redirect_stdout(stream):
+            at = os.fstat(stream.fileno())
+            os.environ["JOURNAL_STREAM"] = f"{at.st_dev}:{at.st_ino if journal else at.st_ino + 1}"
+            logger = log.logger()
+            for level, line in ((Level.INFO, "done"), (Level.NOTICE, "note a"), (Level.WARNING, "waits a\nb\x1b")):
+                log.say(logger, line, level)
+            stream.seek(0)
+            lines = stream.read().splitlines()
+        if journal:
+            check("in the journal", lines, ["<6>done", "<5>note a", "<4>waits a\\nb\\x1b"])
+        else:
+            stamped = [re.fullmatch(r"\d{4}-\d\d-\d\dT\d\d:\d\d:\d\d\.\d{3} (.*)", line) for line in lines]
+            check("elsewhere", [line and line[1] for line in stamped], ["done", "note a", "waits a\\nb\\x1b"])
+    del os.environ["JOURNAL_STREAM"]
+    if before is not None:
+        os.environ["JOURNAL_STREAM"] = before
+
+
+@case
+def floors_of_the_pool() -> None:
+    """A number of CPUs, or a part of the machine in whole cores, of which two are kept at least."""
+    single, pairs = machine_of(EIGHT), machine_of(FOUR)
+    large = machine_of({"nodes": ["0-99"], "reserved": "0"})
+    for text, expected in (("0", (0, 0, 0)), ("3", (3, 3, 3)), ("0%", (0, 0, 0)), ("1%", (2, 4, 2)), ("10%", (2, 4, 10)), ("26%", (3, 6, 26)), ("50%", (4, 8, 50)),
+                           ("100%", (8, 16, 100))):
+        check(f"a pool of {text}", tuple(pool.pool_least_of(text, machine) for machine in (single, pairs, large)), expected)
+    words = ("0", "9999", "7%", "99%", "100%", "10000", "101%", "-1", "", "%", "5%%", "1.5", " 1", "\u0661")
+    check("what is none", [word for word in words if pool.is_pool_least(word)], ["0", "9999", "7%", "99%", "100%"])
 
 
 # The system's own groups.
