@@ -11,7 +11,7 @@ import re
 from typing import Any, Dict, List, Mapping, Optional, Sequence, Tuple
 
 from trial import case, check, scratch, written
-from numarun_host import configs, homes, log, placing, pool, sightings, slices
+from numarun_host import configs, homes, log, placing, pool, reports, sightings, slices
 from numarun_host.commands import Answer, Ask, Command, LeaveFigures, Level, RunPool, SaveTaken, Say, Start, Steps, T, Taken, Tell, Write
 from numarun_host.configs import Demand, Pin
 from numarun_host.cpus import Cpus, print_list, read_list
@@ -627,6 +627,30 @@ def figures_now_and_then() -> None:
     commands, ledger = looked(ledger, now=16.5)
     check("others", [command.figures["steps_total"] for command in commands if isinstance(command, LeaveFigures)], [1])
     check("and no more", [command for command in looked(ledger, now=17.0)[0] if isinstance(command, LeaveFigures)], [])
+
+
+@case
+def what_is_known() -> None:
+    """What `status` is answered, and when that is left anew."""
+    waits = Problem(Kind.WAITS, "w", "w: no place")
+    ledger = ledger_of(container("p", State.PINNED, 2, cpus=cpus("1-2"), nodes=cpus("0")), dataclasses.replace(container("w", State.WAITING), demand=Demand(asks(3), 3)))
+    ledger.problems, ledger.titles, ledger.running, ledger.pool = {(Topic.CONTAINER, "w"): waits}, {"w": "web(1)"}, cpus("0-6"), cpus("0,3-6")
+    ledger.taken = {"/t/p": Taken(1, "", "", False, (7, 8)), "/t/w": Taken(1, "", "", False)}
+    known = reports.status_of(ledger)
+    check("of all", [known[name] for name in ("reserved", "offline", "pool", "plan")], ["0", "7", "0,3-6", None])
+    check("of containers", known["containers"], [
+        {"id": "p", "title": "p", "state": "pinned", "group": "/t/p", "cpus": "1-2", "nodes": "0", "asks": 2, "given": 2, "lifted": "7 8", "why": ""},
+        {"id": "w", "title": "web(1)", "state": "waiting", "group": "/t/w", "cpus": "-", "nodes": "-", "asks": 3, "given": None, "lifted": "", "why": "waits w: no place"}])
+    check("left undone", known["undone"], [{"kind": "waits", "of": "w", "line": "waits w: no place"}])
+    ledger.counts.update(plans_total=1, distance=40, distance_beyond_local=20)
+    ledger.certificate = "/c"
+    check("of the plan", reports.status_of(ledger)["plan"], {"total": 40, "beyond_local": 20, "certificate": "/c"})
+    other = ledger.copy()
+    check("no news", reports.is_news(ledger, other), False)
+    for part, value in (("pool", cpus("0")), ("problems", {}), ("titles", {}), ("certificate", ""), ("containers", {}), ("running", cpus("0")), ("started", False)):
+        other = ledger.copy()
+        setattr(other, part, value)
+        check(f"news: {part}", reports.is_news(ledger, other), True)
 
 
 @case
