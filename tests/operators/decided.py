@@ -319,9 +319,9 @@ def lines_of_the_log() -> None:
 def floors_of_the_pool() -> None:
     """A number of CPUs, or a part of the machine in whole cores, of which two are kept at least."""
     single, pairs = machine_of(EIGHT), machine_of(FOUR)
-    large = machine_of({"nodes": ["0-99"], "reserved": "0"})
-    for text, expected in (("0", (0, 0, 0)), ("3", (3, 3, 3)), ("0%", (0, 0, 0)), ("1%", (2, 4, 2)), ("10%", (2, 4, 10)), ("26%", (3, 6, 26)), ("50%", (4, 8, 50)),
-                           ("100%", (8, 16, 100))):
+    large = machine_of({"nodes": ["0-255"], "reserved": "0"})
+    for text, expected in (("0", (0, 0, 0)), ("3", (3, 3, 3)), ("0%", (0, 0, 0)), ("1%", (2, 4, 3)), ("10%", (2, 4, 26)), ("26%", (3, 6, 67)), ("50%", (4, 8, 128)),
+                           ("100%", (8, 16, 256))):
         check(f"a pool of {text}", tuple(pool.pool_least_of(text, machine) for machine in (single, pairs, large)), expected)
     words = ("0", "9999", "7%", "99%", "100%", "10000", "101%", "-1", "", "%", "5%%", "1.5", " 1", "\u0661")
     check("what is none", [word for word in words if pool.is_pool_least(word)], ["0", "9999", "7%", "99%", "100%"])
