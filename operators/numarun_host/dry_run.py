@@ -21,10 +21,11 @@ from typing import Dict, List, Optional
 from .answers import Answers, Plan, counted
 from .configs import NEAR, Config, Pin, asked, cpus_allowed, housed, nodes_named, parse_text, shared, wish_of
 from .cpus import NO_CPUS, Cpus, print_list, read_list
-from .devices import node_of_device, why_there
+from .devices import node_of_device
 from .explain import explain, laid_out
-from .homes import free_memory, home_of
+from .homes import home_of, why_there
 from .machine import Machine
+from .memory import free_memory
 from .names import Names
 from .pool import POOL_LEAST, is_pool_least, pool_least_of
 from .program import Run

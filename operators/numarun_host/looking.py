@@ -10,8 +10,9 @@ from .cgroups import Groups, group_path, has_ended, read_file, read_json
 from .configs import NEAR, Config, wish_of
 from .cpus import read_list
 from .devices import node_of_device
-from .homes import FreeMemory, free_memory
+from .homes import FreeMemory
 from .ledger import Ledger, Settings
+from .memory import free_memory
 from .names import Names
 from .partition_files import PartitionFiles
 from .script import Refused, read_text

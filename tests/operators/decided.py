@@ -3,6 +3,7 @@ system are held, what is counted and kept, and what is said. Expected values are
 
 from __future__ import annotations
 
+import ast
 import contextlib
 import dataclasses
 import json
@@ -10,8 +11,9 @@ import os
 import re
 from typing import Any, Dict, List, Mapping, Optional, Sequence, Tuple
 
-from trial import case, check, scratch, written
-from numarun_host import configs, homes, log, placing, pool, reports, sightings, slices
+import mutants
+from trial import OPERATORS, case, check, scratch, text_of, written
+from numarun_host import configs, homes, log, memory, placing, pool, reports, sightings, slices
 from numarun_host.commands import Answer, Ask, Command, LeaveFigures, Level, RunPool, SaveTaken, Say, Start, Steps, T, Taken, Tell, Write
 from numarun_host.configs import Demand, Pin
 from numarun_host.cpus import Cpus, print_list, read_list
@@ -88,6 +90,23 @@ def ledger_of(*containers: Container, members: Mapping[str, object] = EIGHT, **s
     for one in containers:
         found.put(one)
     return found
+
+
+# What decides.
+
+
+@case
+def opens_nothing() -> None:
+    """What decides imports nothing by which a file is opened, a program begun or a clock read, and opens none itself."""
+    package, pure = os.path.join(OPERATORS, "numarun_host"), {"__future__", "collections", "copy", "dataclasses", "enum", "functools", "json", "re", "typing", "zlib"}
+    for module in (*mutants.DECIDE, "commands", "seen"):
+        tree = ast.parse(text_of(os.path.join(package, f"{module}.py")))
+        imported = [node for node in ast.walk(tree) if isinstance(node, ast.ImportFrom)]
+        whole = {alias.name for node in ast.walk(tree) if isinstance(node, ast.Import) for alias in node.names} | {str(node.module) for node in imported if not node.level}
+        parts = {f"{node.module}.{alias.name}" for node in imported if node.level for alias in node.names}
+        names = {node.id for node in ast.walk(tree) if isinstance(node, ast.Name)}
+        reads = {part for part in parts if part.startswith("script.") and part != "script.Refused"} | parts & {"cgroups.read_file", "taken.write_file"}
+        check(f"what {module} needs", (whole - pure, reads, names & {"open", "print", "input", "exec"}), (set(), set(), set()))
 
 
 # What a config asks for.
@@ -223,7 +242,7 @@ def free_bytes() -> None:
     for node, text in ((0, "Node 0 MemTotal: 9 kB\nNode 0 MemFree:  5 kB\n"), (1, "Node 1 MemFree: 7 kB\n")):
         os.makedirs(scratch("nodes", f"node{node}"))
         written(scratch("nodes", f"node{node}", "meminfo"), text)
-    check("free memory", homes.free_memory(scratch("nodes"), machine), {0: 5120, 2: None})
+    check("free memory", memory.free_memory(scratch("nodes"), machine), {0: 5120, 2: None})
 
 
 @case
