@@ -24,6 +24,7 @@ from typing import Optional
 
 from trial import check, failed, long_case
 from model import RESERVED, Agent, Choices, Killed, World
+from numarun_host.cpus import NO_CPUS
 from numarun_host.ledger import CONTAINER_TOPICS, State
 from numarun_host.machine import Machine
 
@@ -64,7 +65,7 @@ def settled(agent: Agent) -> None:
         world.now += 100
         agent.look(troubled=False)
     waiting = [name for name, container in agent.ledger.containers.items() if container.state is State.WAITING]
-    taken = frozenset[int]().union(*(row.cpus for row in (agent.program.rows.values() if agent.program else ()) if row.count is not None))
+    taken = NO_CPUS.union(*(row.cpus for row in (agent.program.rows.values() if agent.program else ()) if row.count is not None))
     free = len(world.present - RESERVED - taken)
     free = min(free, len(world.present - taken) - world.pool_least)
     for name in waiting:
