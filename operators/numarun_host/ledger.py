@@ -240,9 +240,8 @@ class Ledger:
     def copy(self) -> Ledger:
         """Another one, of which each part can be changed by itself."""
         other = copy.copy(self)
-        for name, value in vars(self).items():
-            if isinstance(value, (dict, set, list)):
-                setattr(other, name, value.copy())
+        for name in CHANGED:
+            setattr(other, name, getattr(self, name).copy())
         return other
 
     @property
@@ -300,6 +299,10 @@ class Ledger:
 
     def end_pause(self, what: str, of: str = "") -> None:
         self.pauses.pop((what, of), None)
+
+
+# The parts that are changed, and not replaced: those that begin as an empty one each.
+CHANGED = tuple(part.name for part in dataclasses.fields(Ledger) if part.default_factory is not dataclasses.MISSING)
 
 
 def report(ledger: Ledger, topic: Topic, of: str, kind: Kind, text: str) -> Steps[None]:

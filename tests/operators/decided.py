@@ -530,6 +530,7 @@ def copies() -> None:
     copy.unsaid.add((Topic.LOOK, ""))
     copy.taken["/t"] = copy.renewed["/t"] = Taken(1, "", "", False)
     check("as it was", (list(before.containers), before.problems, before.unsaid, before.taken), (["a"], {}, set(), {}))
+    check("parts of both", [name for name, part in vars(before.copy()).items() if isinstance(part, (dict, set, list)) and part is getattr(before, name)], [])
     check("titles", (copy.title("x"), dataclasses.replace(copy, titles={"x": "y"}).title("x")), ("x", "y"))
     before.renewed = {"/t/a": Taken(1, "1", "", False), "/t/b": Taken(2, "2", "", False)}
     before.taken = {"/t/a": Taken(3, "3", "", False)}
