@@ -16,14 +16,15 @@ FILE_BYTES = 1 << 16
 LIMIT = "cpu.max"
 EACH = "/"
 READ = ("cpuset.cpus", "cpuset.mems", "cpuset.cpus.effective", LIMIT, "cgroup.events")
-PIECE = 4096  # what most files of a group fit into
+PIECE = 400  # bytes into which most files of a group fit
+FLAGS = os.O_RDONLY | os.O_CLOEXEC | os.O_NONBLOCK
 Raw = Tuple[Optional[bytes], ...]
 
 
 def read_raw(path: str) -> Optional[bytes]:
     """The bytes of a file of a group, or nothing."""
     try:
-        file = os.open(path, os.O_RDONLY | os.O_CLOEXEC | os.O_NONBLOCK)
+        file = os.open(path, FLAGS)
     except (OSError, ValueError):
         return None
     try:
@@ -88,7 +89,7 @@ class Groups:
             inode = os.stat(path).st_ino
         except (OSError, ValueError):
             return NoGroup(f"{path}: no such group")
-        raw: Raw = tuple([read_raw(f"{path}/{file}") for file in READ])
+        raw: Raw = tuple(map(read_raw, [f"{path}/{file}" for file in READ]))
         before = self.last.get(path)
         if before and before[0] == inode and before[1] == raw:
             return before[2]

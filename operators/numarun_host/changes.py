@@ -56,16 +56,15 @@ def untell(ledger: Ledger, name: str) -> Steps[None]:
 def follow_all(turn: Turn) -> Steps[bool]:
     """Takes up what those that run ask for by now; whether a plan is to be worked out."""
     changed = False
-    for name in list(turn.ledger.containers):
-        changed = (yield from follow(turn, name, turn.there[name])) or changed
+    for name, container in list(turn.ledger.containers.items()):
+        if container.seen is not turn.there[name]:
+            changed = (yield from follow(turn, name, turn.there[name])) or changed
     return changed
 
 
 def follow(turn: Turn, name: str, sighting: Sighting) -> Steps[bool]:
     ledger = turn.ledger
     before = ledger.containers[name].seen
-    if before is sighting:
-        return False
     if before.asks == sighting.asks or sighting.told.is_system:
         if before.group is not sighting.group:
             ledger.change(name, seen=sighting)
@@ -110,34 +109,31 @@ def mend_all(turn: Turn) -> Steps[None]:
     one's."""
     ledger = turn.ledger
     told = [container for container in ledger.containers.values() if container.cpus is not None] if ledger.has_tree else []
-    drifted = [container for container in told if has_drifted(turn, container)]
-    turn.strays = {container.name: turn.there[container.name].group.cpus for container in drifted if cpus_drifted(turn, container)}
-    for container in drifted:
-        if any(is_in_the_way(turn, container.name, other) for other in drifted):
+    drifted = {container.name: container for container in told if has_drifted(turn, container)}
+    has = {name: turn.there[name].group.cpus for name in drifted}
+    turn.strays = {name: cpus for name, cpus in has.items() if cpus != drifted[name].cpus}
+    for container in drifted.values():
+        if any(is_in_the_way(turn, container.name, other) for other in drifted.values()):
             yield from give_back_first(turn, container)
-    for container in drifted:
+    for container in drifted.values():
         yield from mend(turn, container, turn.there[container.name])
     for container in told:
-        if container not in drifted:
-            yield from say_mended(turn, container)
+        if container.name not in drifted:
+            if (Topic.DRIFT, container.name) in ledger.problems:
+                yield from say_mended(turn, container)
             yield from compare_effective(turn, container, turn.there[container.name])
-
-
-def is_still_there(turn: Turn, container: Container) -> bool:
-    """Whether its group is the same, and it is not in the midst of its own end or restart."""
-    group = turn.there[container.name].group
-    return group.inode == container.seen.group.inode and (bool(group.cpus) or lives(turn, container))
-
-
-def cpus_drifted(turn: Turn, container: Container) -> bool:
-    """Whether somebody else wrote its CPUs."""
-    return is_still_there(turn, container) and turn.there[container.name].group.cpus != container.cpus
 
 
 def has_drifted(turn: Turn, container: Container) -> bool:
     """Whether somebody else wrote its CPUs, or its nodes."""
-    nodes = is_still_there(turn, container) and nodes_drifted(turn.ledger, container, turn.there[container.name])
-    return nodes or cpus_drifted(turn, container)
+    sighting = turn.there[container.name]
+    other = sighting.group.cpus != container.cpus or nodes_drifted(turn.ledger, container, sighting)
+    return other and is_still_there(turn, container, sighting.group)
+
+
+def is_still_there(turn: Turn, container: Container, group: Group) -> bool:
+    """Whether its group is the same, and it is not in the midst of its own end or restart."""
+    return group.inode == container.seen.group.inode and (bool(group.cpus) or lives(turn, container))
 
 
 def is_in_the_way(turn: Turn, name: str, other: Container) -> bool:

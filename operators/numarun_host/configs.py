@@ -171,10 +171,10 @@ def nodes_named(config: Config) -> Cpus:
         return NO_CPUS
 
 
-def same_list(one: str, other: object) -> bool:
+def same_list(text: str, other: object) -> bool:
     """Whether two texts are lists of the same CPUs."""
     try:
-        return isinstance(other, str) and read_list(one, "cpus") == read_list(other, "cpus")
+        return isinstance(other, str) and read_list(text, "cpus") == read_list(other, "cpus")
     except Refused:
         return False
 

@@ -22,6 +22,7 @@ from .slices import let_go
 from .telling import Turn, ask
 
 NO_FOLDER = ""  # of no folder's path
+FIGURES_PAUSE = 5.0  # seconds
 
 
 def decide(before: Ledger, look: Look) -> Steps[Ledger]:
@@ -82,9 +83,16 @@ def leave(turn: Turn) -> Steps[None]:
     ledger.before = {name: before for name, before in ledger.before.items() if name in turn.there or name in turn.look.told}
     if turn.unsaved:
         yield SaveTaken(ledger.all_taken)
-    file = ledger.settings.figures
-    if file:
-        yield from leave_for_others(ledger, LeaveFigures(figures_of(ledger)), file)
+    if ledger.settings.figures:
+        yield from leave_figures(ledger, turn.now)
+
+
+def leave_figures(ledger: Ledger, now: float) -> Steps[None]:
+    """Leaves the figures where they are others, and else now and then, since each time the system writes to its disk."""
+    figures = figures_of(ledger)
+    if ledger.left is None or figures != ledger.left[1] or now - ledger.left[0] >= FIGURES_PAUSE:
+        yield from leave_for_others(ledger, LeaveFigures(figures), ledger.settings.figures)
+        ledger.left = now, figures
 
 
 def leave_for_others(ledger: Ledger, command: Union[LeaveFigures, LeaveState], of: str) -> Steps[None]:

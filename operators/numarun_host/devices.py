@@ -1,5 +1,4 @@
-"""Where a device is: a network interface, a block device, or a PCI address, by what the kernel tells below /sys; and what of that is the
-reason for a home."""
+"""Where a device is: a network interface, a block device, or a PCI address, by what the kernel tells below /sys."""
 
 from __future__ import annotations
 
@@ -8,7 +7,6 @@ import re
 from typing import Optional
 
 from .cgroups import read_file
-from .cpus import Cpus
 
 NAME = re.compile(r"[A-Za-z0-9][A-Za-z0-9:._-]{0,63}")
 PLACES = ("class/net/{}/device/numa_node", "class/block/{}/device/numa_node", "class/block/{}/device/device/numa_node",
@@ -24,12 +22,3 @@ def node_of_device(name: str, folder: str = "/sys") -> Optional[int]:
         if found:
             return int(found[0])
     return None
-
-
-def why_there(device: Optional[str], node: Optional[int], home: Cpus) -> str:
-    """What is said behind the home of one that names a device, which is at this node; nothing of one that names none."""
-    if device is None:
-        return ""
-    if node is None:
-        return f": {device} is at no node of this machine"
-    return f": {device} is there" if home == {node} else f": {device} is at node {node}, whose memory it may not have"

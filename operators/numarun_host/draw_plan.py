@@ -22,8 +22,8 @@ from .machine import Machine
 EXAMPLE = """example, from the top of the repository:
   crates/numarun/out/numarun run examples/machines/two-socket.json < examples/scripts/plans > answers
   operators/numarun-draw-plan examples/machines/two-socket.json < answers > plan.svg"""
-# Of the palette of Okabe and Ito, which people without red or green tell apart; further containers take lighter and darker
-# shades of these with stripes across.
+# Of the palette of Okabe and Ito, which people without red or green tell apart; further containers take lighter and
+# darker shades of these with stripes across.
 PALETTE = ["#e69f00", "#56b4e9", "#009e73", "#f0e442", "#0072b2", "#d55e00", "#cc79a7"]
 
 
@@ -38,7 +38,7 @@ def mixed(colour: str, other: str, part: float) -> str:
     return "#" + "".join(f"{round(a + (b - a) * part):02x}" for a, b in zip(*pair))
 
 
-class Look(NamedTuple):
+class Paint(NamedTuple):
     """How a CPU is drawn; `tip` is what it says when pointed at."""
 
     fill: str
@@ -51,14 +51,14 @@ class Look(NamedTuple):
     moved: bool = False
 
 
-RESERVED = Look("#404040", "#ffffff", "#", "reserved")
-POOL = Look("#ffffff", "#606060", "", "pool")
-OFFLINE = Look("#ffffff", "#303030", "", "offline", offline=True)
-SEVERAL = Look("#c8c8c8", "#000000", "*", "for several")
-NOBODY = Look("#ffffff", "#606060", "", "for none")
+RESERVED = Paint("#404040", "#ffffff", "#", "reserved")
+POOL = Paint("#ffffff", "#606060", "", "pool")
+OFFLINE = Paint("#ffffff", "#303030", "", "offline", offline=True)
+SEVERAL = Paint("#c8c8c8", "#000000", "*", "for several")
+NOBODY = Paint("#ffffff", "#606060", "", "for none")
 
 
-Entry = Tuple[Look, str, str]  # of the legend: a CPU, and what is said beside it and below
+Entry = Tuple[Paint, str, str]  # of the legend: a CPU, and what is said beside it and below
 Move = Tuple[Optional[Cpus], Optional[Cpus]]  # what a container gives and gets
 
 
@@ -81,8 +81,8 @@ class Style:
         red, green, blue = ((int(self.colour(name)[k : k + 2], 16) / 255) ** 2.2 for k in (1, 3, 5))
         return "#000000" if 0.2126 * red + 0.7152 * green + 0.0722 * blue > 0.18 else "#ffffff"
 
-    def look(self, name: str) -> Look:
-        return Look(self.colour(name), self.ink(name), self.tag[name], name, striped=self.place[name] >= len(PALETTE))
+    def look(self, name: str) -> Paint:
+        return Paint(self.colour(name), self.ink(name), self.tag[name], name, striped=self.place[name] >= len(PALETTE))
 
 
 class PlanView:
@@ -103,7 +103,7 @@ class PlanView:
             return "#"
         return "." if cpu in self.pool else "x"
 
-    def look(self, cpu: int) -> Look:
+    def look(self, cpu: int) -> Paint:
         name = self.holder.get(cpu)
         if name is None:
             return RESERVED if cpu in self.machine.reserved else POOL if cpu in self.pool else OFFLINE
@@ -150,7 +150,7 @@ class ShortView:
         takers = self.takers.get(cpu, [])
         return self.style.tag[takers[0]] if len(takers) == 1 else "*" if cpu in self.shortage.allowed else "."
 
-    def look(self, cpu: int) -> Look:
+    def look(self, cpu: int) -> Paint:
         if cpu in self.machine.reserved:
             return RESERVED
         takers = self.takers.get(cpu, [])
@@ -310,7 +310,7 @@ class Picture:
         return "\n".join(head + self.lines + ["</svg>"])
 
 
-def draw_box(picture: Picture, x: float, y: float, width: float, height: float, look: Look) -> None:
+def draw_box(picture: Picture, x: float, y: float, width: float, height: float, look: Paint) -> None:
     """The ground of a CPU, or of a line of the legend."""
     edge = ' stroke="#606060" stroke-width="0.8"' + (' stroke-dasharray="2 2"' if look.offline else "")
     picture.box(x, y, width, height, look.fill, ' stroke="#000000" stroke-width="2.2"' if look.moved else edge)
@@ -321,7 +321,7 @@ def draw_box(picture: Picture, x: float, y: float, width: float, height: float, 
         picture.add(f'<path d="M{x:g} {y:g}l{width:g} {height:g}m0 {-height:g}l{-width:g} {height:g}" stroke="#c8c8c8" fill="none"/>')
 
 
-def draw_cell(picture: Picture, x: float, y: float, side: int, cpu: int, look: Look) -> None:
+def draw_cell(picture: Picture, x: float, y: float, side: int, cpu: int, look: Paint) -> None:
     """One CPU: its number above, and the letters of its container below."""
     inner = side - 2
     picture.add(f"<g><title>CPU {cpu}: {html.escape(look.tip)}</title>")

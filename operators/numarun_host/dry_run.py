@@ -21,10 +21,11 @@ from typing import Dict, List, Optional
 from .answers import Answers, Plan, counted
 from .configs import NEAR, Config, Pin, asked, cpus_allowed, housed, nodes_named, parse_text, shared, wish_of
 from .cpus import NO_CPUS, Cpus, print_list, read_list
-from .devices import node_of_device, why_there
+from .devices import node_of_device
 from .explain import explain, laid_out
-from .homes import free_memory, home_of
+from .homes import home_of, why_there
 from .machine import Machine
+from .memory import free_memory
 from .names import Names
 from .pool import POOL_LEAST, is_pool_least, pool_least_of
 from .program import Run
@@ -47,7 +48,7 @@ class Housed:
 
 
 @dataclass
-class Trial:
+class Rehearsal:
     """An open run, the machine that it is over, the CPUs of it that are there, and a folder for configs."""
 
     words: argparse.Namespace
@@ -77,19 +78,19 @@ def asked_for(words: argparse.Namespace, folder: str) -> str:
     return folder
 
 
-def with_home(trial: Trial, before: Dict[str, Cpus], bundle: str) -> Housed:
+def with_home(rehearsal: Rehearsal, before: Dict[str, Cpus], bundle: str) -> Housed:
     """The bundle as the agent would tell it: with a home, where it would give it one, or as one that is shared by --pin. A shared container has
     reserved CPUs, so that the others are those of pinned ones."""
-    machine, words = trial.machine, trial.words
+    machine, words = rehearsal.machine, rehearsal.words
     try:
         config = parse_text(read_text(os.path.join(bundle, "config.json"), BYTES), bundle)
         count, rather = (asked(config, rule, machine) for rule in (Pin(words.pin), Pin.ALL))
-        free = (trial.there - machine.reserved).difference(*(cpus for cpus in before.values() if not cpus & machine.reserved))
+        free = (rehearsal.there - machine.reserved).difference(*(cpus for cpus in before.values() if not cpus & machine.reserved))
         free &= cpus_allowed(config, machine.present)
     except Refused:
         return Housed(bundle)  # numarun refuses it
     if count is None and rather is not None:
-        return Housed(written(trial, shared(config).config))
+        return Housed(written(rehearsal, shared(config).config))
     if words.home == "none" or not count:
         return Housed(bundle)
     device = wish_of(config, NEAR)
@@ -98,12 +99,12 @@ def with_home(trial: Trial, before: Dict[str, Cpus], bundle: str) -> Housed:
     home = frozenset({near}) if near is not None and near < len(machine.nodes) > 1 else home
     if not home or home == frozenset(machine.node_of.values()):
         return Housed(bundle)
-    return Housed(written(trial, housed(config, home)), home, why_there(device, near, home))
+    return Housed(written(rehearsal, housed(config, home)), home, why_there(device, near, home))
 
 
-def written(trial: Trial, config: Config) -> str:
+def written(rehearsal: Rehearsal, config: Config) -> str:
     """A bundle with this config."""
-    made = tempfile.mkdtemp(dir=trial.folder)
+    made = tempfile.mkdtemp(dir=rehearsal.folder)
     with open(os.path.join(made, "config.json"), "w") as file:
         json.dump(config, file)
     return made
@@ -120,9 +121,9 @@ def tell_all(numarun: Run, script: str) -> None:
         numarun.ask("step")
 
 
-def create_all(trial: Trial) -> None:
+def create_all(rehearsal: Rehearsal) -> None:
     """Makes the containers of a folder of bundles, or of a runtime's state, each with a home if it names none."""
-    numarun, running = trial.numarun, trial.words.running
+    numarun, running = rehearsal.numarun, rehearsal.words.running
     try:
         names = sorted(os.listdir(running))
     except OSError as why:
@@ -131,24 +132,24 @@ def create_all(trial: Trial) -> None:
         folder = os.path.join(running, name)
         kept = kept_in(folder, ROOT)
         if kept and is_word(name):
-            answer = kept.fault or numarun.ask(f"create {name} {with_home(trial, requested(numarun), kept.bundle).bundle}")[0]
+            answer = kept.fault or numarun.ask(f"create {name} {with_home(rehearsal, requested(numarun), kept.bundle).bundle}")[0]
             if kept.fault or answer.startswith("refused"):
                 print(f"{os.path.basename(sys.argv[0])}: passed over: {folder}: {answer}", file=sys.stderr)
-            elif trial.words.home != "none":
+            elif rehearsal.words.home != "none":
                 numarun.ask("rebalance")  # the home of the next one is by what this one has
 
 
-def set_up(trial: Trial) -> None:
-    words, machine, numarun = trial.words, trial.machine, trial.numarun
+def set_up(rehearsal: Rehearsal) -> None:
+    words, machine, numarun = rehearsal.words, rehearsal.machine, rehearsal.numarun
     if words.online is not None:
         online = read_list(read_text(words.online), words.online)
-        trial.there = machine.present & online | machine.reserved
+        rehearsal.there = machine.present & online | machine.reserved
         for cpu in sorted(machine.present - machine.reserved):
             numarun.ask(f"{'online' if cpu in online else 'offline'} {cpu}")
     if words.after is not None:
         tell_all(numarun, words.after)
     if words.running is not None:
-        create_all(trial)
+        create_all(rehearsal)
         outcome = numarun.ask("rebalance")
         if outcome[0].startswith("short"):
             raise Refused(f"{words.running}: these have no plan themselves: {' '.join(outcome[:-1])}")
@@ -181,11 +182,11 @@ def where(name: str, plan: Plan, before: Dict[str, Cpus], told: Housed) -> List[
     return lines + [f"total distance: {plan.total}; {counted(moved)} of the others would move"]
 
 
-def try_it(trial: Trial, bundle: str) -> int:
-    set_up(trial)
-    words, numarun = trial.words, trial.numarun
+def try_it(rehearsal: Rehearsal, bundle: str) -> int:
+    set_up(rehearsal)
+    words, numarun = rehearsal.words, rehearsal.numarun
     before = requested(numarun)
-    told = with_home(trial, before, bundle)
+    told = with_home(rehearsal, before, bundle)
     name = words.id or next(name for name in ["new"] + [f"new-{k}" for k in range(2, 9999)] if name not in before)
     answer = numarun.ask(f"create {name} {told.bundle}")[0]
     if answer.startswith("refused"):
@@ -193,9 +194,9 @@ def try_it(trial: Trial, bundle: str) -> int:
     outcome = numarun.ask("begin")
     if outcome[0].startswith("refused"):
         raise Refused(f"{numarun.program}: {outcome[0]}")
-    answers = Answers(numarun.program, trial.machine, outcome + numarun.ask("certificate"))
+    answers = Answers(numarun.program, rehearsal.machine, outcome + numarun.ask("certificate"))
     plan = answers.outcomes[0]
-    least = pool_least_of(words.pool_least, trial.machine)
+    least = pool_least_of(words.pool_least, rehearsal.machine)
     if isinstance(plan, Plan) and name in plan.holds and len(plan.pool or NO_CPUS) < least:
         left = counted(len(plan.pool or NO_CPUS))
         print(laid_out([f"{name} has no place: it would leave {left} to the pool, and that keeps {least} (see --pool-least)"]))
@@ -203,7 +204,7 @@ def try_it(trial: Trial, bundle: str) -> int:
     if isinstance(plan, Plan):
         print(laid_out(where(name, plan, before, told)))
         return 0
-    print(laid_out([f"{name} has no place", *explain(answers.certificates[0], trial.machine)]))
+    print(laid_out([f"{name} has no place", *explain(answers.certificates[0], rehearsal.machine)]))
     return 1
 
 
@@ -246,6 +247,6 @@ def main() -> int:
         bundle = asked_for(words, folder)
         numarun = Run(words.program, words.machine, words.slit)
         try:
-            return try_it(Trial(words, machine, numarun, folder, machine.present - machine.offline), bundle)
+            return try_it(Rehearsal(words, machine, numarun, folder, machine.present - machine.offline), bundle)
         finally:
             numarun.close()

@@ -3,31 +3,14 @@ and enough free memory."""
 
 from __future__ import annotations
 
-import os
-import re
 from typing import Iterator, List, Mapping, Optional, Tuple
 
 from .configs import CPU, Config, at, memory_asked, nodes_named
 from .cpus import Cpus
 from .machine import Machine
-from .script import Refused, read_text
 
 FAR = 20  # between two nodes where no distances are told
-MEMINFO_BYTES = 1 << 16
 FreeMemory = Mapping[int, Optional[int]]  # the free bytes of each node, nothing where that is not told
-
-
-def free_memory(folder: str, machine: Machine) -> FreeMemory:
-    """The free bytes of each node with CPUs by its meminfo."""
-    return {node: free_of(folder, node) for node, cpus in enumerate(machine.nodes) if cpus}
-
-
-def free_of(folder: str, node: int) -> Optional[int]:
-    try:
-        found = re.search(r"MemFree:\s*([0-9]{1,15}) kB", read_text(os.path.join(folder, f"node{node}", "meminfo"), MEMINFO_BYTES))
-    except Refused:
-        return None
-    return int(found[1]) * 1024 if found else None
 
 
 class Vacancy:
@@ -76,3 +59,12 @@ def home_of(machine: Machine, config: Config, count: int, free: Cpus, memory: Fr
     if nodes_named(config) or at(config, *CPU, "mems") or len(machine.nodes) < 2:
         return None
     return Vacancy(machine, free, memory).choose(-(-count // machine.threads), memory_asked(config))
+
+
+def why_there(device: Optional[str], node: Optional[int], home: Cpus) -> str:
+    """What is said behind the home of one that names a device, which is at this node; nothing of one that names none."""
+    if device is None:
+        return ""
+    if node is None:
+        return f": {device} is at no node of this machine"
+    return f": {device} is there" if home == {node} else f": {device} is at node {node}, whose memory it may not have"

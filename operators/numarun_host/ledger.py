@@ -2,6 +2,7 @@
 
 from __future__ import annotations
 
+import copy
 import dataclasses
 from dataclasses import dataclass, field
 from enum import Enum
@@ -234,11 +235,14 @@ class Ledger:
     times: Dict[str, float] = field(default_factory=lambda: dict.fromkeys(TIMES, 0.0))
     looked: Optional[float] = None  # when it looked last
     certificate: str = ""           # the file of the last one that was kept
+    left: Optional[Tuple[float, Dict[str, float]]] = None  # the figures that were left last, and when
 
     def copy(self) -> Ledger:
         """Another one, of which each part can be changed by itself."""
-        mine = {part.name: getattr(self, part.name) for part in dataclasses.fields(self)}
-        return Ledger(**{name: type(value)(value) if isinstance(value, (dict, set, list)) else value for name, value in mine.items()})
+        other = copy.copy(self)
+        for name in CHANGED:
+            setattr(other, name, getattr(self, name).copy())
+        return other
 
     @property
     def all_taken(self) -> Dict[str, Taken]:
@@ -295,6 +299,10 @@ class Ledger:
 
     def end_pause(self, what: str, of: str = "") -> None:
         self.pauses.pop((what, of), None)
+
+
+# The parts that are changed, and not replaced: those that begin as an empty one each.
+CHANGED = tuple(part.name for part in dataclasses.fields(Ledger) if part.default_factory is not dataclasses.MISSING)
 
 
 def report(ledger: Ledger, topic: Topic, of: str, kind: Kind, text: str) -> Steps[None]:

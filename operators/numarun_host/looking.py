@@ -10,8 +10,9 @@ from .cgroups import Groups, group_path, has_ended, read_file, read_json
 from .configs import NEAR, Config, wish_of
 from .cpus import read_list
 from .devices import node_of_device
-from .homes import FreeMemory, free_memory
+from .homes import FreeMemory
 from .ledger import Ledger, Settings
+from .memory import free_memory
 from .names import Names
 from .partition_files import PartitionFiles
 from .script import Refused, read_text
@@ -41,7 +42,7 @@ class Eyes:
                 self.online = self.read_online()
         except Refused as why:
             fault = str(why)
-        told = {name: self.container(ledger, name, one) for name, one in self.source.told.items()}
+        told = {name: self.container(ledger, name, container) for name, container in self.source.told.items()}
         self.configs = {name: config for name, config in self.configs.items() if name in told}
         self.found = {name: found for name, found in self.found.items() if name in told}
         slices = self.groups.named(self.settings.slices) if self.groups and self.settings.slices else ()
@@ -58,9 +59,9 @@ class Eyes:
     # Containers.
 
     def container(self, ledger: Ledger, name: str, told: Told) -> Union[Found, Missing]:
-        path = f"{told.bundle}/config.json"
         if told.fault:
             return Missing(told, told.fault, in_parts=True)
+        path = f"{told.bundle}/config.json"
         try:
             there = os.stat(path)
         except (OSError, ValueError):
@@ -107,7 +108,7 @@ class Eyes:
                        ) -> Tuple[Mapping[str, Union[Group, NoGroup]], Mapping[str, Tuple[str, ...]], FrozenSet[str]]:
         """Those of containers that are told, or were, those that an agent took, and those of the system; what is below these; and which have
         processes of their own."""
-        found: Dict[str, Union[Group, NoGroup]] = {one.group.path: one.group for one in told.values() if isinstance(one, Found)}
+        found: Dict[str, Union[Group, NoGroup]] = {container.group.path: container.group for container in told.values() if isinstance(container, Found)}
         paths: Set[str] = {container.seen.group.path for container in ledger.containers.values()}
         paths |= {path for path, _ in ledger.before.values() if path} | ledger.taken.keys() | ledger.renewed.keys()
         ways = groups.ways_to(slices, frozenset(paths | found.keys())) if slices else set()

@@ -11,17 +11,21 @@ from typing import Dict, Iterable, List, Mapping, Optional, Tuple
 from .configs import at, parse_text
 from .script import Refused, read_text
 
-LONG = re.compile(r"[0-9a-f]{64}")
-SHORT = 12
+LENGTH, SHORT = 64, 12
+LONG = re.compile(r"[0-9a-f]*")
 DOCKER = "/var/lib/docker/containers"
 PODMAN = ("/var/lib/containers/storage/overlay-containers/containers.json", "/var/lib/containers/storage/vfs-containers/containers.json")
 RECORD_BYTES = 16 << 20
 PLAIN = re.compile(r"[A-Za-z0-9_.-]{1,64}")
 
 
+def is_long(name: str) -> bool:
+    return len(name) == LENGTH and LONG.fullmatch(name) is not None
+
+
 def short(name: str) -> str:
     """An id as the log has it where no name is known."""
-    return name[:SHORT] if LONG.fullmatch(name) else name
+    return name[:SHORT] if is_long(name) else name
 
 
 class Names:
@@ -33,7 +37,7 @@ class Names:
 
     def titles(self, *several: Mapping[str, object]) -> Dict[str, str]:
         """What these are called that have long ids."""
-        names = {name for told in several for name in told if LONG.fullmatch(name)}
+        names = {name for told in several for name in told if is_long(name)}
         new = [name for name in names if name not in self.found]
         if new:
             self.found.update(self.look_up(new))

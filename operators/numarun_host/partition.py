@@ -117,7 +117,7 @@ class Partition:
     @property
     def is_valid(self) -> bool:
         """Right below the root it is none where a group beside requests one of its CPUs, whatever the file says."""
-        return self.text == ROOT and (self.is_deep or not any(one.asks(self.cpus) for one in self.beside))
+        return self.text == ROOT and (self.is_deep or not any(group.asks(self.cpus) for group in self.beside))
 
     def fault(self, reason: str) -> str:
         """What the file says of one that is not valid, and what stands against it."""
@@ -174,19 +174,21 @@ def stands_against(layout: Layout, seen: Partition, cpus: Cpus, has: Cpus = NO_C
         return [f"{layout.root} has none of the CPUs {print_list(cpus)}"]
     if seen.online is not None and not seen.online - cpus:
         return [f"the machine file has all CPUs of {layout.root}, so none is left to the rest of the host (numarun-describe --system)"]
-    asked = [(one.path, one.asks(cpus) - one.asks(has)) for one in seen.beside]
+    asked = [(group.path, group.asks(cpus) - group.asks(has)) for group in seen.beside]
     return [f"{path} requests {print_list(asks)}" for path, asks in asked if asks]
 
 
 def asking(seen: Partition, cpus: Cpus) -> List[str]:
     """Who beside requests some of these CPUs, in whatever way."""
-    return [f"{one.path} requests {print_list((one.cpus | one.exclusive) & cpus)}" for one in seen.beside if (one.cpus | one.exclusive) & cpus]
+    requested = [(group.path, (group.cpus | group.exclusive) & cpus) for group in seen.beside]
+    return [f"{path} requests {print_list(both)}" for path, both in requested if both]
 
 
 def spared(seen: Partition, cpus: Cpus) -> Tuple[Cpus, List[str]]:
     """These CPUs, and those of each group below that would be left with none of its own, which the kernel would give all of the partition's;
     and who that is."""
-    squeezed = [(one.path, one.cpus & seen.effective) for one in seen.below if one.cpus & seen.effective and not one.cpus & seen.effective & cpus]
+    owned = [(group.path, group.cpus & seen.effective) for group in seen.below]
+    squeezed = [(path, has) for path, has in owned if has and not has & cpus]
     return cpus.union(*(has for _, has in squeezed)), [f"{path} would be left with none of its CPUs {print_list(has)}" for path, has in squeezed]
 
 
@@ -234,5 +236,5 @@ def step_back(layout: Layout, seen: Partition, before: Mapping[str, str]) -> Ste
 
 def taken_by(seen: Partition, had: Cpus, given: Cpus) -> List[str]:
     """The partitions beside that would be broken, since they have CPUs that it had before, or some that the group above them gives up."""
-    found = [(one.path, one.asks(had) | (one.exclusive & given if one.near else NO_CPUS)) for one in seen.beside if one.valid]
+    found = [(group.path, group.asks(had) | (group.exclusive & given if group.near else NO_CPUS)) for group in seen.beside if group.valid]
     return [f"{path} requests {print_list(cpus)}" for path, cpus in found if cpus]

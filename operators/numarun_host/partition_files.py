@@ -17,7 +17,7 @@ from .configs import parse_text
 from .cpus import NO_CPUS, Cpus, print_list
 from .partition import (CONTROLS, CPUS_FILE, EXCLUSIVE_FILE, FILE, ISOLATED, MEMBER, ROOT, Below, Beside, Layout, Loose, Partition, Step, next_step,
                         step_back)
-from .partitioning import Outcome, walk
+from .partitioning import Walked, walk
 from .script import Refused, read_text, replace_file
 from .taken import inode_of, write_file
 
@@ -121,14 +121,14 @@ class PartitionFiles:
             os.close(self.file)
             self.file = None
 
-    def go(self, wanted: Cpus, step_of: Callable[[Partition], Step]) -> Outcome:
+    def go(self, wanted: Cpus, step_of: Callable[[Partition], Step]) -> Walked:
         """Walks the way of `step_of` to its end."""
         try:
             return self.carry_out(walk(wanted, step_of))
         finally:
             self.close()
 
-    def carry_out(self, steps: Steps[Outcome]) -> Outcome:
+    def carry_out(self, steps: Steps[Walked]) -> Walked:
         try:
             command = next(steps)
             while True:
@@ -141,7 +141,7 @@ class PartitionFiles:
                     answer = Answer(why=write_file(f"{command.path}/{command.file}", command.text))
                 command = steps.send(answer)
         except StopIteration as end:
-            found: Outcome = end.value
+            found: Walked = end.value
             return found
 
 
@@ -295,18 +295,26 @@ def undo(before: Before, work: str) -> List[str]:
     return faults
 
 
-def give_back(work: str) -> List[str]:
-    """The lines that say what was given back of a partition, if there is one. A group that somebody else made in its place is left alone."""
+@dataclass(frozen=True)
+class GivenBack:
+    """What came of giving a partition back, as lines, of which there are none where there was no partition; and whether something failed."""
+
+    lines: Tuple[str, ...] = ()
+    failed: bool = False
+
+
+def give_back(work: str) -> GivenBack:
+    """Gives a partition back, if there is one. A group that somebody else made in its place is left alone."""
     before = read_before(work)
     if not before:
-        return []
+        return GivenBack()
     inode = inode_of(before.path)
     if before.inode and inode not in (None, before.inode):
         forget(work)
-        return [f"given back {before.path}: nothing, since it is another group by now"]
+        return GivenBack((f"given back {before.path}: nothing, since it is another group by now",))
     faults = undo(before, work)
     if faults:
-        return [f"failed {fault}" for fault in faults]
+        return GivenBack(tuple(f"failed {fault}" for fault in faults), failed=True)
     says, has = read_file(f"{before.path}/{FILE}"), read_file(f"{before.path}/{CPUS_FILE}")
     more = f", cpus {has}, since it has processes" if has and not before.files.get(f"{before.path}/{CPUS_FILE}") else ""
-    return [f"given back {before.path}: {says or 'removed'}{more}"]
+    return GivenBack((f"given back {before.path}: {says or 'removed'}{more}",))

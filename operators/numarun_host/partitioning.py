@@ -24,7 +24,7 @@ def wanted_by(ledger: Ledger) -> Cpus:
 
 
 @dataclass(frozen=True)
-class Outcome:
+class Walked:
     """What was found last, what stands against it, and whether a step was refused or came to nothing."""
 
     seen: Partition
@@ -32,7 +32,7 @@ class Outcome:
     failed: bool = False
 
 
-def walk(wanted: Cpus, step_of: Callable[[Partition], Step]) -> Steps[Outcome]:
+def walk(wanted: Cpus, step_of: Callable[[Partition], Step]) -> Steps[Walked]:
     """Looks, does one step, and looks again, until there is none. What is no partition though it was told to be one is not told again, and a
     step that came to nothing is not done twice."""
     last: Optional[Step] = None
@@ -41,16 +41,16 @@ def walk(wanted: Cpus, step_of: Callable[[Partition], Step]) -> Steps[Outcome]:
         seen = (yield LookAtPartition(wanted)).partition or seen
         step = step_of(seen)
         if isinstance(step, Stop):
-            return Outcome(seen, step.reason)
+            return Walked(seen, step.reason)
         if isinstance(last, Write) and (last.file, last.text) == (FILE, ROOT) and not seen.is_valid and seen.text != ROOT:
-            return Outcome(seen, failed=True)
+            return Walked(seen, failed=True)
         if step == last:
             break
         why = (yield step).why
         if why:
-            return Outcome(seen, "; ".join([why, *asking(seen, wanted)]), failed=True)
+            return Walked(seen, "; ".join([why, *asking(seen, wanted)]), failed=True)
         last = step
-    return Outcome(seen, in_vain(last), failed=True)
+    return Walked(seen, in_vain(last), failed=True)
 
 
 def keep_partition(turn: Turn, is_planned: bool) -> Steps[None]:
@@ -66,7 +66,7 @@ def keep_partition(turn: Turn, is_planned: bool) -> Steps[None]:
         false = "; ".join(asking(seen, seen.cpus)) if seen.text == ROOT else ""
         yield from say_broken(ledger, layout, seen, step.reason if isinstance(step, Stop) else false)
     if isinstance(step, Stop):
-        yield from say_outcome(turn, layout, Outcome(seen, step.reason), is_planned)
+        yield from say_outcome(turn, layout, Walked(seen, step.reason), is_planned)
     elif ledger.is_over(pause_of(seen), "", turn.now):
         yield from say_outcome(turn, layout, (yield from walk(wanted, partial(next_step, layout, wanted=wanted))), is_planned)
 
@@ -80,7 +80,7 @@ def say_broken(ledger: Ledger, layout: Layout, seen: Partition, reason: str) -> 
     yield from report(ledger, Topic.PARTITION, "", Kind.PARTITION, f"{layout.path}: {seen.fault(reason)}")
 
 
-def say_outcome(turn: Turn, layout: Layout, outcome: Outcome, is_planned: bool) -> Steps[None]:
+def say_outcome(turn: Turn, layout: Layout, outcome: Walked, is_planned: bool) -> Steps[None]:
     """Says what came of it. On Linux 6.1 each try undoes the pinning of the containers' threads, so what failed is tried again at growing
     pauses."""
     ledger, before, after = turn.ledger, turn.look.partition, outcome.seen
@@ -108,7 +108,7 @@ def say_outcome(turn: Turn, layout: Layout, outcome: Outcome, is_planned: bool) 
 
 def say_loose(ledger: Ledger, found: Tuple[Loose, ...]) -> Steps[None]:
     """Names once each process that may run on CPUs of the partition all the same."""
-    for one in found:
-        if (one.pid, one.name) not in ledger.loose:
-            yield Say(f"loose {one.pid} {one.name}: it may run on {print_list(one.cpus)}", Level.WARNING)
-    ledger.loose = frozenset((one.pid, one.name) for one in found)
+    for process in found:
+        if (process.pid, process.name) not in ledger.loose:
+            yield Say(f"loose {process.pid} {process.name}: it may run on {print_list(process.cpus)}", Level.WARNING)
+    ledger.loose = frozenset((process.pid, process.name) for process in found)

@@ -7,8 +7,7 @@ from typing import Optional
 from .commands import Say, Steps
 from .configs import NEAR, Config, Demand, Pin, asked, cpus_allowed, housed, limited, nodes_named, shared, wish_of
 from .cpus import NO_CPUS, Cpus, print_list
-from .devices import why_there
-from .homes import home_of
+from .homes import home_of, why_there
 from .ledger import Container, Ledger, Sighting, State
 from .script import Refused
 from .telling import Turn

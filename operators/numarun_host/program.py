@@ -97,9 +97,12 @@ class Run:
 
     def said(self) -> List[str]:
         """The lines on standard error since the last time that this was asked."""
-        text = os.pread(self.notes.fileno(), BYTES, 0)
-        if text:
-            os.ftruncate(self.notes.fileno(), 0)
+        notes = self.notes.fileno()
+        size = min(os.fstat(notes).st_size, BYTES)
+        if not size:
+            return []
+        text = os.pread(notes, size, 0)
+        os.ftruncate(notes, 0)
         return text.decode(errors="replace").strip().splitlines()
 
     def why(self) -> str:

@@ -18,11 +18,11 @@ from .taken import Whole, read_record, write_file, write_limit
 def release(root: str, work: str, slices: Sequence[str]) -> int:
     """Says what was given back; 1 where a write was refused."""
     links, record = Links(root, work), read_record(work)
-    said = give_partition_back(work)
-    for line in said:
+    partition = give_partition_back(work)
+    for line in partition.lines:
         print(line)
-    status = 1 if any(line.startswith("failed ") for line in said) else 0
-    if said and not status:
+    status = 1 if partition.failed else 0
+    if partition.lines and not partition.failed:
         record.whole = (read_file(f"{links.root}/{CPUS_IN_EFFECT}"), record.whole[1])
     if not all(text not in (None, "-") for text in record.whole):
         record.whole = (read_file(f"{links.root}/{CPUS_IN_EFFECT}") or "", read_file(f"{links.root}/{NODES_IN_EFFECT}") or "")

@@ -3,7 +3,7 @@
 from __future__ import annotations
 
 import dataclasses
-from typing import Dict, Optional, Set, Tuple, Union
+from typing import Dict, Mapping, Optional, Set, Tuple, Union
 
 from .commands import Steps
 from .configs import CPU, Limit, at, bare, nodes_named, other_limit, same_list
@@ -20,17 +20,14 @@ TOLD_NO_MORE = "it is told of no more"
 def see_all(turn: Turn) -> Steps[None]:
     """Who is there, and the groups of the system itself that are to be on the pool."""
     ledger, there, told = turn.ledger, turn.there, turn.look.told
-    for name, found in told.items():
-        yield from see(turn, name, found)
+    yield from see_each(turn, told)
     for name, container in ledger.containers.items():
         if name not in told and not container.seen.told.is_system and lives(turn, container):
             there[name] = as_it_was(turn, container)
             yield from say_stays(ledger, name, TOLD_NO_MORE)
     yield from see_left_by_one_before(turn)
     rest, turn.on_the_way = rest_of(turn)
-    for name, found in rest.items():
-        if name not in there:
-            yield from see(turn, name, found)
+    yield from see_each(turn, {name: found for name, found in rest.items() if name not in there})
     forget_those_gone(ledger, told.keys() | rest.keys() | there.keys())
 
 
@@ -44,14 +41,21 @@ def forget_those_gone(ledger: Ledger, names: Set[str]) -> None:
         del ledger.sighted[name]
 
 
-def see(turn: Turn, name: str, found: Union[Found, Missing]) -> Steps[None]:
+def see_each(turn: Turn, told: Mapping[str, Union[Found, Missing]]) -> Steps[None]:
+    ledger = turn.ledger
+    for name, found in told.items():
+        if isinstance(found, Missing):
+            yield from miss(turn, name, found)
+            continue
+        turn.there[name] = sighting_of(ledger, name, found)
+        if ledger.problems:
+            ledger.settle(Topic.STAYS, name)
+            ledger.settle(Topic.CONTAINER, name, Kind.ABSENT, Kind.OUTSIDE)
+
+
+def miss(turn: Turn, name: str, found: Missing) -> Steps[None]:
     """Who can't be seen and has a process has not ended."""
     ledger = turn.ledger
-    if isinstance(found, Found):
-        turn.there[name] = sighting_of(ledger, name, found)
-        ledger.settle(Topic.STAYS, name)
-        ledger.settle(Topic.CONTAINER, name, Kind.ABSENT, Kind.OUTSIDE)
-        return
     if found.outside:
         ledger.settle(Topic.STAYS, name)
         yield from report(ledger, Topic.CONTAINER, name, Kind.OUTSIDE, f"{ledger.title(name)}: {found.why}")

@@ -41,7 +41,8 @@ def rest_of(turn: Turn) -> Tuple[Rest, Dict[str, str]]:
     ways = {sighting.group.path: name for name, sighting in turn.there.items() if asks(ledger, name, sighting)}
     containers = frozenset(sighting.group.path for sighting in turn.there.values())
     on_the_way: Dict[str, str] = {}
-    found = [group for name in turn.look.slices if is_there(turn, name) for group in below(turn, name, ways, containers, on_the_way)]
+    others = [name for name in turn.look.slices if is_there(turn, name) and path_of(ledger, name) not in containers]
+    found = [group for name in others for group in below(turn, name, ways, containers, on_the_way)]
     return {id_of(name): found_of(turn, name) for name in found}, on_the_way
 
 
@@ -73,15 +74,15 @@ def asks(ledger: Ledger, name: str, sighting: Sighting) -> bool:
 
 
 def below(turn: Turn, name: str, ways: Dict[str, str], containers: FrozenSet[str], on_the_way: Dict[str, str]) -> List[str]:
-    """This group, or, where a pinned container is below it, those below it that are on the way to none."""
+    """This group, which is no container's, or, where a pinned container is below it, those below it that are on the way to none."""
     path = path_of(turn.ledger, name)
-    if path in containers:
-        return []
-    pinned = next((container for way, container in ways.items() if is_below(way, path)), None)
+    begins = f"{path}/"
+    pinned = next((container for way, container in ways.items() if way.startswith(begins)), None)
     if pinned is None:
         return [name]
     on_the_way[path] = pinned
-    return [group for child in turn.look.below.get(path, ()) for group in below(turn, f"{name}/{child}", ways, containers, on_the_way)]
+    children = [child for child in turn.look.below.get(path, ()) if f"{path}/{child}" not in containers]
+    return [group for child in children for group in below(turn, f"{name}/{child}", ways, containers, on_the_way)]
 
 
 def give_back(turn: Turn, path: str, whole: bool = False) -> Steps[Optional[str]]:

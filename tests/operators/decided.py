@@ -3,14 +3,18 @@ system are held, what is counted and kept, and what is said. Expected values are
 
 from __future__ import annotations
 
+import ast
+import contextlib
 import dataclasses
 import json
 import os
+import re
 from typing import Any, Dict, List, Mapping, Optional, Sequence, Tuple
 
-from trial import case, check, scratch, written
-from numarun_host import configs, homes, placing, sightings, slices
-from numarun_host.commands import Answer, Ask, Command, LeaveFigures, RunPool, SaveTaken, Say, Start, Steps, T, Taken, Tell, Write
+import mutants
+from trial import OPERATORS, case, check, scratch, text_of, written
+from numarun_host import configs, homes, log, memory, placing, pool, reports, sightings, slices
+from numarun_host.commands import Answer, Ask, Command, LeaveFigures, Level, RunPool, SaveTaken, Say, Start, Steps, T, Taken, Tell, Write
 from numarun_host.configs import Demand, Pin
 from numarun_host.cpus import Cpus, print_list, read_list
 from numarun_host.decide import answer_to_hook, decide, figures_of, reserved_of, squeezed_of
@@ -86,6 +90,23 @@ def ledger_of(*containers: Container, members: Mapping[str, object] = EIGHT, **s
     for one in containers:
         found.put(one)
     return found
+
+
+# What decides.
+
+
+@case
+def opens_nothing() -> None:
+    """What decides imports nothing by which a file is opened, a program begun or a clock read, and opens none itself."""
+    package, pure = os.path.join(OPERATORS, "numarun_host"), {"__future__", "collections", "copy", "dataclasses", "enum", "functools", "json", "re", "typing", "zlib"}
+    for module in (*mutants.DECIDE, "commands", "seen"):
+        tree = ast.parse(text_of(os.path.join(package, f"{module}.py")))
+        imported = [node for node in ast.walk(tree) if isinstance(node, ast.ImportFrom)]
+        whole = {alias.name for node in ast.walk(tree) if isinstance(node, ast.Import) for alias in node.names} | {str(node.module) for node in imported if not node.level}
+        parts = {f"{node.module}.{alias.name}" for node in imported if node.level for alias in node.names}
+        names = {node.id for node in ast.walk(tree) if isinstance(node, ast.Name)}
+        reads = {part for part in parts if part.startswith("script.") and part != "script.Refused"} | parts & {"cgroups.read_file", "taken.write_file"}
+        check(f"what {module} needs", (whole - pure, reads, names & {"open", "print", "input", "exec"}), (set(), set(), set()))
 
 
 # What a config asks for.
@@ -209,6 +230,8 @@ def near_nodes() -> None:
     flat = machine_of({name: member for name, member in FOUR.items() if name != "distances"})
     check("no distances", homes.home_of(flat, {}, 8, cpus("4-15"), nine), cpus("1-2"))
     check("one node", homes.home_of(machine_of(EIGHT), {}, 2, cpus("1-7"), {}), None)
+    row = machine_of({"nodes": ["0-1", "2-3", "4-5", "6-7"], "distances": [[10 + 5 * abs(a - b) for b in range(4)] for a in range(4)], "reserved": "0"})
+    check("two that are whole, and not three in the order of distance", homes.home_of(row, {}, 4, cpus("1,2-3,4-5,7"), nine), cpus("1-2"))
     no_cpus = machine_of({"nodes": ["0-3", "", "4-7"], "reserved": "0"})
     check("a node without CPUs", homes.home_of(no_cpus, {}, 5, cpus("1-7"), {}), cpus("0,2"))
 
@@ -219,7 +242,7 @@ def free_bytes() -> None:
     for node, text in ((0, "Node 0 MemTotal: 9 kB\nNode 0 MemFree:  5 kB\n"), (1, "Node 1 MemFree: 7 kB\n")):
         os.makedirs(scratch("nodes", f"node{node}"))
         written(scratch("nodes", f"node{node}", "meminfo"), text)
-    check("free memory", homes.free_memory(scratch("nodes"), machine), {0: 5120, 2: None})
+    check("free memory", memory.free_memory(scratch("nodes"), machine), {0: 5120, 2: None})
 
 
 @case
@@ -283,6 +306,44 @@ def homes_said() -> None:
         ledger = ledger_of(one)
         commands, _ = done(placing.say_home(ledger, "a"))
         check(f"the home of {config} {demand} {had}", (said(commands), ledger.containers["a"].home), expected)
+
+
+# What is said.
+
+
+@case
+def lines_of_the_log() -> None:
+    """A line has its time before it, or its priority where standard output is journald's stream; what is no printable sign is escaped."""
+    before = os.environ.pop("JOURNAL_STREAM", None)
+    for journal in (False, True):
+        with open(scratch("stream"), "w+", encoding="utf-8") as stream, contextlib.redirect_stdout(stream):
+            at = os.fstat(stream.fileno())
+            os.environ["JOURNAL_STREAM"] = f"{at.st_dev}:{at.st_ino if journal else at.st_ino + 1}"
+            logger = log.logger()
+            for level, line in ((Level.INFO, "done"), (Level.NOTICE, "note a"), (Level.WARNING, "waits a\nb\x1b")):
+                log.say(logger, line, level)
+            stream.seek(0)
+            lines = stream.read().splitlines()
+        if journal:
+            check("in the journal", lines, ["<6>done", "<5>note a", "<4>waits a\\nb\\x1b"])
+        else:
+            stamped = [re.fullmatch(r"\d{4}-\d\d-\d\dT\d\d:\d\d:\d\d\.\d{3} (.*)", line) for line in lines]
+            check("elsewhere", [line and line[1] for line in stamped], ["done", "note a", "waits a\\nb\\x1b"])
+    del os.environ["JOURNAL_STREAM"]
+    if before is not None:
+        os.environ["JOURNAL_STREAM"] = before
+
+
+@case
+def floors_of_the_pool() -> None:
+    """A number of CPUs, or a part of the machine in whole cores, of which two are kept at least."""
+    single, pairs = machine_of(EIGHT), machine_of(FOUR)
+    large = machine_of({"nodes": ["0-255"], "reserved": "0"})
+    for text, expected in (("0", (0, 0, 0)), ("3", (3, 3, 3)), ("0%", (0, 0, 0)), ("1%", (2, 4, 3)), ("10%", (2, 4, 26)), ("26%", (3, 6, 67)), ("50%", (4, 8, 128)),
+                           ("100%", (8, 16, 256))):
+        check(f"a pool of {text}", tuple(pool.pool_least_of(text, machine) for machine in (single, pairs, large)), expected)
+    words = ("0", "9999", "7%", "99%", "100%", "10000", "101%", "-1", "", "%", "5%%", "1.5", " 1", "\u0661")
+    check("what is none", [word for word in words if pool.is_pool_least(word)], ["0", "9999", "7%", "99%", "100%"])
 
 
 # The system's own groups.
@@ -469,6 +530,7 @@ def copies() -> None:
     copy.unsaid.add((Topic.LOOK, ""))
     copy.taken["/t"] = copy.renewed["/t"] = Taken(1, "", "", False)
     check("as it was", (list(before.containers), before.problems, before.unsaid, before.taken), (["a"], {}, set(), {}))
+    check("parts of both", [name for name, part in vars(before.copy()).items() if isinstance(part, (dict, set, list)) and part is getattr(before, name)], [])
     check("titles", (copy.title("x"), dataclasses.replace(copy, titles={"x": "y"}).title("x")), ("x", "y"))
     before.renewed = {"/t/a": Taken(1, "1", "", False), "/t/b": Taken(2, "2", "", False)}
     before.taken = {"/t/a": Taken(3, "3", "", False)}
@@ -571,6 +633,44 @@ def figures() -> None:
     commands, ledger = looked(ledger, told=held, groups=groups)
     check("seconds", (ledger.times["waited_seconds_total"], ledger.times["squeezed_seconds_total"], ledger.looked), (2.5, 5.0, 10.0))
     check("left", [one.figures["containers_waiting"] for one in commands if isinstance(one, LeaveFigures)], [1])
+
+
+@case
+def figures_now_and_then() -> None:
+    """Figures are left at the first look, where one is another one, and else five seconds behind the last time."""
+    ledger, left = ledger_of(figures="/figures"), []
+    for now in (10.0, 11.0, 14.9, 15.0, 16.0):
+        commands, ledger = looked(ledger, now=now)
+        left.append(sum(isinstance(command, LeaveFigures) for command in commands))
+    check("the same figures", left, [1, 0, 0, 1, 0])
+    ledger.counts["steps_total"] += 1
+    commands, ledger = looked(ledger, now=16.5)
+    check("others", [command.figures["steps_total"] for command in commands if isinstance(command, LeaveFigures)], [1])
+    check("and no more", [command for command in looked(ledger, now=17.0)[0] if isinstance(command, LeaveFigures)], [])
+
+
+@case
+def what_is_known() -> None:
+    """What `status` is answered, and when that is left anew."""
+    waits = Problem(Kind.WAITS, "w", "w: no place")
+    ledger = ledger_of(container("p", State.PINNED, 2, cpus=cpus("1-2"), nodes=cpus("0")), dataclasses.replace(container("w", State.WAITING), demand=Demand(asks(3), 3)))
+    ledger.problems, ledger.titles, ledger.running, ledger.pool = {(Topic.CONTAINER, "w"): waits}, {"w": "web(1)"}, cpus("0-6"), cpus("0,3-6")
+    ledger.taken = {"/t/p": Taken(1, "", "", False, (7, 8)), "/t/w": Taken(1, "", "", False)}
+    known = reports.status_of(ledger)
+    check("of all", [known[name] for name in ("reserved", "offline", "pool", "plan")], ["0", "7", "0,3-6", None])
+    check("of containers", known["containers"], [
+        {"id": "p", "title": "p", "state": "pinned", "group": "/t/p", "cpus": "1-2", "nodes": "0", "asks": 2, "given": 2, "lifted": "7 8", "why": ""},
+        {"id": "w", "title": "web(1)", "state": "waiting", "group": "/t/w", "cpus": "-", "nodes": "-", "asks": 3, "given": None, "lifted": "", "why": "waits w: no place"}])
+    check("left undone", known["undone"], [{"kind": "waits", "of": "w", "line": "waits w: no place"}])
+    ledger.counts.update(plans_total=1, distance=40, distance_beyond_local=20)
+    ledger.certificate = "/c"
+    check("of the plan", reports.status_of(ledger)["plan"], {"total": 40, "beyond_local": 20, "certificate": "/c"})
+    other = ledger.copy()
+    check("no news", reports.is_news(ledger, other), False)
+    for part, value in (("pool", cpus("0")), ("problems", {}), ("titles", {}), ("certificate", ""), ("containers", {}), ("running", cpus("0")), ("started", False)):
+        other = ledger.copy()
+        setattr(other, part, value)
+        check(f"news: {part}", reports.is_news(ledger, other), True)
 
 
 @case

@@ -1,7 +1,8 @@
 """Tries what the agent decides, without a process: whatever comes in whatever order over a plain model of the kernel, of a watched folder and
 of numarun (model.py). Containers come, go and come back, some with CPUs that their runtimes gave them, configs flip, break and can't be had,
 CPUs flap, writes fail, the folder is away, others write, all of it also between any two commands; and the agent is killed at any of them.
-`decisions.py [CASES [SEED]]` draws longer cases than the test does.
+`decisions.py [CASES [SEED [JOBS]]]` draws long cases alone, by so many processes side by side, a thousand by each seed from SEED on. Debian's pypy3
+runs them several times faster.
 
 - No container with a process is given up, and nobody's processes are ended.
 - Who requests CPUs without a reserved one has them for itself, after each write.
@@ -12,6 +13,7 @@ CPUs flap, writes fail, the folder is away, others write, all of it also between
 from __future__ import annotations
 
 import json
+import multiprocessing
 import os
 import random
 import subprocess
@@ -22,6 +24,7 @@ from typing import Optional
 
 from trial import check, failed, long_case
 from model import RESERVED, Agent, Choices, Killed, World
+from numarun_host.cpus import NO_CPUS
 from numarun_host.ledger import CONTAINER_TOPICS, State
 from numarun_host.machine import Machine
 
@@ -62,7 +65,7 @@ def settled(agent: Agent) -> None:
         world.now += 100
         agent.look(troubled=False)
     waiting = [name for name, container in agent.ledger.containers.items() if container.state is State.WAITING]
-    taken = frozenset[int]().union(*(row.cpus for row in (agent.program.rows.values() if agent.program else ()) if row.count is not None))
+    taken = NO_CPUS.union(*(row.cpus for row in (agent.program.rows.values() if agent.program else ()) if row.count is not None))
     free = len(world.present - RESERVED - taken)
     free = min(free, len(world.present - taken) - world.pool_least)
     for name in waiting:
@@ -198,9 +201,26 @@ def other_long() -> None:
     check("long cases", long_days(LONG, SEED + 1), "")
 
 
+THOUSAND = 1000
+
+
+def thousand(seed: int) -> str:
+    return long_days(THOUSAND, seed)
+
+
+def by_hand(cases: int, seed: int, jobs: int) -> None:
+    """As many thousands of long cases as these are, up to the first fault."""
+    seeds = range(seed, seed + -(-cases // THOUSAND))
+    with multiprocessing.Pool(jobs) as pool:
+        for done, fault in enumerate(pool.imap(thousand, seeds), 1):
+            check(f"what is decided, seed {seeds[done - 1]}", fault, "")
+            if failed:
+                return
+            if done % 10 == 0 or done == len(seeds):
+                print(f"what is decided: {done * THOUSAND} long cases as expected, seeds {seed} to {seeds[done - 1]}", flush=True)
+
+
 if __name__ == "__main__":
     asked = [int(word) for word in sys.argv[1:]]
-    cases, seed = asked + [10_000, SEED][len(asked):]
-    check("what is decided", long_days(cases, seed), "")
-    print(f"what is decided: {cases} long cases, seed {seed}")
+    by_hand(*asked, *(10_000, SEED, 1)[len(asked):])
     sys.exit(1 if failed else 0)

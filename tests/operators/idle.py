@@ -17,7 +17,7 @@ from numarun_host.machine import Machine
 from trial import case, check
 
 COUNT = 200
-CALLS = 110          # of a look, for each container, at most; and those beside
+CALLS = 92           # of a look, for each container, at most; and those beside
 CALLS_BESIDE = 600
 SECONDS = 0.010      # of processor, for a look, on a machine that does nothing else
 FACTOR = 10          # what a busy machine may take more: 32 ms were seen under a load of 44
@@ -26,7 +26,7 @@ LOOKS = 40
 
 
 def crowded() -> Site:
-    """200 containers with their limits, half of them with CPUs of their own, and slices of the system's beside."""
+    """200 containers with their limits, half of them with CPUs of their own, which they have in effect, and slices of the system's beside."""
     site = Site({"nodes": ["0-127"], "distances": [[10]], "reserved": "0"})
     for k in range(COUNT):
         name = f"c{k:03}"
@@ -36,6 +36,10 @@ def crowded() -> Site:
                 opened.write(text + "\n")
     for group in ("system.slice", "user.slice", "init.scope"):
         site.make_group(None, group=group)
+    site.run(*more(site))
+    for k in range(COUNT):
+        group = f"numarun/c{k:03}"
+        site.put(group, "cpuset.cpus.effective", site.file(group))
     return site
 
 
@@ -95,7 +99,6 @@ def spent(site: Site, rounds: int) -> float:
 @case
 def seconds() -> None:
     site = crowded()
-    site.run(*more(site))
     few = min(spent(site, 2) for _ in range(2))
     many = min(spent(site, 2 + LOOKS) for _ in range(2))
     each = (many - few) / LOOKS

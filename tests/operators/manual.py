@@ -8,6 +8,7 @@ import subprocess
 
 from trial import OPERATORS, PROGRAM, TOP, case, check
 from trial import told as said
+from numarun_host.agent import parser_of_words
 
 PAGE = os.path.join(TOP, "docs", "numarun.1")
 PAGES = [os.path.join(OPERATORS, name) for name in sorted(os.listdir(OPERATORS)) if name.endswith((".1", ".8"))]
@@ -60,6 +61,17 @@ def of_the_scripts():
         check("and there are some", len(options) > 0, True)
         told_all = set(re.findall(r"^  (--[a-z-]+)", helps, re.M)) - {"--help"}
         check(f"options that {name} lacks", sorted(told_all - {f"-{option}" for option in options}) if name != "numarun-agent" else [], [])
+
+
+@case
+def of_the_agent():
+    """Its help has its options in groups, what a container can say of itself, and each default."""
+    text = " ".join(said("numarun-agent", "--help")[1].split())
+    for words in ("what it works with:", "containers:", "the rest of the machine:", "what it leaves to read:", *(f"NUMARUN_{word}" for word in ("PIN", "LEAST", "STAY", "NEAR"))):
+        check(f"the help has {words!r}", words in text, True)
+    told = [action for action in parser_of_words()._actions if action.default and action.default != "==SUPPRESS=="]
+    lacking = [action.dest for action in told if f"({action.default})" not in " ".join((action.help % vars(action)).split())]
+    check("defaults that are not said", (lacking, len(told) > 5), (["program"], True))
 
 
 @case

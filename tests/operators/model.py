@@ -6,16 +6,16 @@ from __future__ import annotations
 
 import dataclasses
 from dataclasses import dataclass, field
-from typing import Dict, FrozenSet, Iterator, List, Optional, Set, Tuple, Union
+from typing import Dict, Iterator, List, Optional, Set, Tuple, Union
 
 from numarun_host.commands import (Answer, Ask, CloseTrial, Command, Drop, Level, Link, OpenTrial, SaveTaken, Say, Start, Taken, Tell, Unlink,
                                    Verb, Write)
+from numarun_host.cpus import NO_CPUS, Cpus
 from numarun_host.decide import decide
 from numarun_host.ledger import Ledger, Settings
 from numarun_host.machine import Machine
 from numarun_host.seen import Found, Group, Look, Missing, NoGroup, Online, Told
 
-Cpus = FrozenSet[int]
 ROOT, RESERVED = "/tree", frozenset({0})
 NAMES = ("a", "b", "c", "d", "e", "s", "t")
 POOLED = ("s", "t")  # those of them that ask for no CPUs of their own
@@ -174,7 +174,7 @@ class Program:
             return ("refused E90 Busy",)
         holds, short = self.plan()
         if short:
-            allowed = frozenset[int]().union(*(self.rows[name].allowed & self.online for name in short))
+            allowed = NO_CPUS.union(*(self.rows[name].allowed & self.online for name in short))
             head = f"short demand {sum(self.rows[name].count or 0 for name in short)} allowed {shown(allowed)}"
             return (head, *(f"member {name}" for name in short), "end")
         pool = self.online.difference(*holds.values())
@@ -277,9 +277,9 @@ class World:
     def check(self, path: str, cpus: Cpus, shared: bool) -> None:
         """What a write gives is nobody else's own, and what it gives as one's own is nobody else's at all, as the agent saw it last. Who requests
         CPUs without a reserved one has them as its own, unless it was written as one that is on the pool."""
-        given = cpus - self.places[path].cpus - self.seen.get(path, frozenset[int]())
+        given = cpus - self.places[path].cpus - self.seen.get(path, NO_CPUS)
         for other, place in self.places.items():
-            own, both = not place.cpus & RESERVED and not place.shared, given & place.cpus & self.seen.get(other, frozenset[int]())
+            own, both = not place.cpus & RESERVED and not place.shared, given & place.cpus & self.seen.get(other, NO_CPUS)
             if other != path and place.populated and both and (own or not (shared or cpus & RESERVED)):
                 self.wrong.append(f"{path} is given {shown(both)}, which {other} has")
 

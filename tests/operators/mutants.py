@@ -1,36 +1,51 @@
 #!/usr/bin/env python3
-"""Makes mutants of the modules of the agent that decide: in each one thing of the code is another one, on a copy. A mutant lives where none
-of the tests sees it, and then a test is missing, or the mutant does the same as the code. By hand, since all of them take hours.
+"""Makes mutants of the modules of the agent that decide: in each one thing of the code is another one. A mutant lives where none of the tests sees it,
+and then a test is missing, or the mutant does the same as the code. By hand, since all of them take an hour, and some minutes by Debian's pypy3.
 
 mutants.py [MODULE]..                  all mutants of these modules, or of all that decide
 mutants.py --sample N --seed S ..      N of them, by chance
 mutants.py --only MODULE:LINE:WHAT     one, as a line of the output names it
-mutants.py --cases NAME..              the cases of run.py that are run, one after another until one fails
+mutants.py --cases NAME[/CASE]..       the cases of run.py that try them
 mutants.py --list                      them, without trying any
 
-CASES in the environment is how many cases of decisions.py are drawn. A line for each: whether it was killed, and by which case."""
+The cases are read once, and run without a mutant first, which gives their order: the quick ones come first. Each mutant is tried in a process that is
+forked from there. In it the function gets the mutant's code, and the cases are run in turn until one fails, or takes far longer than without it.
+
+CASES in the environment is how many cases of decisions.py are drawn. A line for each mutant: which case killed it, or that it lives. Those in
+equal_mutants.txt do the same as the code, as is said there of each; they are tried too, and one of them that is killed is named."""
 
 from __future__ import annotations
 
 import argparse
 import ast
-import concurrent.futures
+import importlib
+import inspect
 import os
 import pathlib
 import random
+import resource
 import shutil
-import subprocess
+import signal
 import sys
 import tempfile
+import time
+import traceback
+import types
 from dataclasses import dataclass
-from typing import Dict, Iterator, List, Optional, Sequence, Tuple, Type
+from typing import Callable, Dict, Iterable, Iterator, List, Mapping, Sequence, Tuple, Type
+
+import run
+import trial
 
 TOP = pathlib.Path(__file__).resolve().parents[2]
 PACKAGE = pathlib.Path("operators/numarun_host")
-DECIDE = ("changes", "configs", "decide", "homes", "ledger", "newcomers", "placing", "plans", "room", "sightings", "slices", "telling")
-COPIED = ("operators", "tests/operators")
-MOST = 600  # seconds in which a case ends, or else it has seen the mutant
-CASES = ("decided", "parts", "decisions/short", "decisions/long")
+DECIDE = ("changes", "configs", "decide", "homes", "ledger", "lifting", "newcomers", "partition", "partitioning", "placing", "plans", "pool", "reports",
+          "room", "sightings", "slices", "telling")
+CASES = ("decided", "parts", "decisions/long", "decisions/short")
+OF_PARTITIONS = tuple(f"partitions/{case}" for case in ("said", "resized", "order", "loose", "made", "given_back", "refused", "decided_by_chance"))
+OWN = {"lifting": ("decided", "parts", "lifts/by_chance"), "partition": OF_PARTITIONS, "partitioning": OF_PARTITIONS}  # cases of modules that have others
+PATIENCE, TIMES = 10, 20  # a case that has not ended in so many seconds, and so many times those that it takes without a mutant, has seen it
+MEMORY = 4 << 30          # bytes that a mutant may take
 
 COMPARED: Dict[Type[ast.cmpop], Type[ast.cmpop]] = {
     ast.Lt: ast.LtE, ast.LtE: ast.Lt, ast.Gt: ast.GtE, ast.GtE: ast.Gt, ast.Eq: ast.NotEq, ast.NotEq: ast.Eq, ast.In: ast.NotIn, ast.NotIn: ast.In,
@@ -53,9 +68,9 @@ class Mutant:
     def title(self) -> str:
         return f"{self.module}:{self.line}:{self.what}"
 
-    def source(self) -> str:
-        tree = Replaced(self.place, self.way).visit(ast.parse(text_of(self.module)))
-        return ast.unparse(ast.fix_missing_locations(tree))
+    def tree(self) -> ast.Module:
+        tree: ast.Module = Replaced(self.place, self.way).visit(ast.parse(text_of(self.module)))
+        return ast.fix_missing_locations(tree)
 
 
 def is_said(node: ast.AST) -> bool:
@@ -132,34 +147,144 @@ def text_of(module: str) -> str:
     return (TOP / PACKAGE / f"{module}.py").read_text(encoding="utf-8")
 
 
-def copied(folder: pathlib.Path) -> pathlib.Path:
-    """A checkout that has these folders as its own, and all others by links."""
-    top = folder / "copy"
-    top.mkdir()
-    for path in TOP.iterdir():
-        if path.name not in ("operators", "tests", ".git"):
-            (top / path.name).symlink_to(path)
-    (top / "tests").mkdir()
-    for name in COPIED:
-        shutil.copytree(TOP / name, top / name, symlinks=True)
-    return top
+# Putting one in.
 
 
-def seen_by(mutant: Optional[Mutant], cases: Sequence[str]) -> str:
-    """The first case that fails where the mutant stands in the place of its module; none where it lives."""
-    with tempfile.TemporaryDirectory(prefix="mutant-") as folder:
-        top = copied(pathlib.Path(folder))
-        if mutant:
-            (top / PACKAGE / f"{mutant.module}.py").write_text(mutant.source(), encoding="utf-8")
-        for case in cases:
-            words = [sys.executable, "-B", str(top / "tests/operators/run.py"), "--jobs", "0", case]
-            try:
-                ran = subprocess.run(words, stdout=subprocess.DEVNULL, stderr=subprocess.DEVNULL, timeout=MOST, check=False)
-            except subprocess.TimeoutExpired:
-                return case
-            if ran.returncode:
-                return case
-    return ""
+def path_to(tree: ast.Module, line: int) -> List[str]:
+    """The names of the function that has this line, and of its class, if it is one's method."""
+    path: List[str] = []
+    body: Sequence[ast.stmt] = tree.body
+    while True:
+        found = [node for node in body if isinstance(node, (ast.ClassDef, ast.FunctionDef)) and node.lineno <= line <= (node.end_lineno or 0)]
+        path += [node.name for node in found]
+        if not found or isinstance(found[0], ast.FunctionDef):
+            return path
+        body = found[0].body
+
+
+def function_at(names: Mapping[str, object], path: Sequence[str]) -> types.FunctionType:
+    found: object = names[path[0]]
+    for name in path[1:]:
+        found = vars(found)[name]
+    found = getattr(found, "fget", None) or getattr(found, "__func__", None) or found
+    assert callable(found)
+    function = inspect.unwrap(found)
+    assert isinstance(function, types.FunctionType)
+    return function
+
+
+def put_in(mutant: Mutant) -> None:
+    """Gives a function the mutant's code, so that all who have that function have the mutant."""
+    name, tree = f"{PACKAGE.name}.{mutant.module}", mutant.tree()
+    names: Dict[str, object] = {"__name__": name, "__package__": PACKAGE.name}
+    exec(compile(tree, f"{mutant.module}.py", "exec"), names)
+    path = path_to(ast.parse(text_of(mutant.module)), mutant.line)
+    new, old = function_at(names, path), function_at(vars(importlib.import_module(name)), path)
+    old.__code__, old.__defaults__ = new.__code__, new.__defaults__
+
+
+# Trying it.
+
+@dataclass(frozen=True)
+class Timed:
+    """A case, and the seconds that it takes without a mutant."""
+
+    title: str
+    function: Callable[[], None]
+    seconds: float
+
+
+def timed(names: Sequence[str], folder: str) -> List[Timed]:
+    """The cases of these names, the quick ones first; each is run once."""
+    found: List[Timed] = []
+    os.environ["SCRATCH"] = folder
+    for case in run.chosen(run.all_cases(), names):
+        importlib.import_module(case.file)
+        began = time.monotonic()
+        trial.CASES[case.title]()
+        if trial.failed:
+            raise SystemExit(f"mutants.py: {case.title} fails without a mutant")
+        found.append(Timed(case.title, trial.CASES[case.title], time.monotonic() - began))
+    return sorted(found, key=lambda case: case.seconds)
+
+
+def cases_of(modules: Iterable[str], asked: Sequence[str], folder: str) -> Dict[str, List[Timed]]:
+    """The cases that try the mutants of each module."""
+    names = {module: asked or OWN.get(module, CASES) for module in modules}
+    every = timed(list(dict.fromkeys(name for several in names.values() for name in several)), folder)
+    return {module: [case for case in every if {case.title, case.title.split("/")[0]} & set(several)] for module, several in names.items()}
+
+
+def try_here(mutant: Mutant, cases: Sequence[Timed], folder: str, said: int) -> int:
+    """What the process of a mutant does: it says each case before it is run; the status is 0 if it lives."""
+    silent = os.open(os.devnull, os.O_WRONLY)
+    os.dup2(silent, 1)
+    os.dup2(silent, 2)
+    resource.setrlimit(resource.RLIMIT_AS, (MEMORY, MEMORY))
+    os.mkdir(folder)
+    os.environ["SCRATCH"] = folder
+    put_in(mutant)
+    for case in cases:
+        os.write(said, f"{case.title}\n".encode())
+        signal.alarm(int(PATIENCE + TIMES * case.seconds))
+        case.function()
+        if trial.failed:
+            return 1
+    return 0
+
+
+def begin(mutant: Mutant, cases: Sequence[Timed], folder: str) -> Tuple[int, int]:
+    """Begins the process of a mutant, and gives it with what it says."""
+    reader, writer = os.pipe()
+    process = os.fork()
+    if process == 0:
+        status = 1
+        try:
+            status = try_here(mutant, cases, folder, writer)
+        except BaseException:
+            traceback.print_exc()
+        finally:
+            os._exit(status)
+    os.close(writer)
+    return process, reader
+
+
+def tried(mutants: Sequence[Mutant], cases: Mapping[str, Sequence[Timed]], jobs: int, folder: str) -> Iterator[Tuple[Mutant, str]]:
+    """Each mutant as its process ends, so many side by side, with the case that has killed it; none where it lives."""
+    left, running = list(mutants), dict[int, Tuple[Mutant, int, str]]()
+    while left or running:
+        while left and len(running) < jobs:
+            own = os.path.join(folder, f"mutant-{len(left)}")
+            process, reader = begin(left[0], cases[left[0].module], own)
+            running[process] = left.pop(0), reader, own
+        process, status = os.wait()
+        mutant, reader, own = running.pop(process)
+        with open(reader, encoding="utf-8") as said:
+            lines = said.read().splitlines()
+        shutil.rmtree(own, ignore_errors=True)
+        yield mutant, (lines[-1] if lines else "its own code") if status else ""
+
+
+# What is known of those that live.
+
+
+Key = Tuple[str, str, str]  # the function, what is another thing in it, and the text of the line
+
+
+def known_equal() -> Dict[Key, str]:
+    """Why a mutant does the same as the code."""
+    found: Dict[Key, str] = {}
+    for line in (TOP / "tests/operators/equal_mutants.txt").read_text(encoding="utf-8").splitlines():
+        if line and not line.startswith("#"):
+            function, what, text, why = (part.strip() for part in line.split(" | "))
+            found[function, what, text] = why
+    return found
+
+
+def key_of(mutant: Mutant) -> Key:
+    text = text_of(mutant.module)
+    function = ".".join([mutant.module, *path_to(ast.parse(text), mutant.line)])
+    return function, mutant.what, text.splitlines()[mutant.line - 1].strip()
 
 
 def main(words: Sequence[str]) -> int:
@@ -168,7 +293,7 @@ def main(words: Sequence[str]) -> int:
     parser.add_argument("--sample", type=int, default=0, metavar="N", help="so many by chance")
     parser.add_argument("--seed", type=int, default=1, help="of the chance (%(default)s)")
     parser.add_argument("--only", action="append", default=[], metavar="MODULE:LINE:WHAT", help="one of them")
-    parser.add_argument("--cases", nargs="+", default=list(CASES), metavar="NAME", help=f"what tries them ({' '.join(CASES)})")
+    parser.add_argument("--cases", nargs="+", default=[], metavar="NAME", help=f"what tries them ({' '.join(CASES)}, and of some modules others)")
     parser.add_argument("--list", action="store_true", help="print them, and try none")
     parser.add_argument("--jobs", type=int, default=os.cpu_count() or 1, metavar="N", help="how many are tried side by side (%(default)s)")
     asked = parser.parse_args(words)
@@ -180,17 +305,22 @@ def main(words: Sequence[str]) -> int:
     if asked.list:
         print("\n".join(mutant.title for mutant in mutants))
         return 0
-    wrong = seen_by(None, asked.cases)
-    if wrong:
-        print(f"mutants.py: {wrong} fails without a mutant", file=sys.stderr)
-        return 2
-    lives = 0
-    with concurrent.futures.ThreadPoolExecutor(asked.jobs) as pool:
-        for mutant, seen in zip(mutants, pool.map(lambda mutant: seen_by(mutant, asked.cases), mutants)):
-            lives += not seen
-            print(f"{mutant.title} {f'killed by {seen}' if seen else 'LIVES'}", flush=True)
-    print(f"{len(mutants)} mutants, {lives} live")
-    return 1 if lives else 0
+    with tempfile.TemporaryDirectory(prefix="mutants-") as folder:
+        cases = cases_of({mutant.module for mutant in mutants}, asked.cases, folder)
+        return say_all(tried(mutants, cases, asked.jobs, folder), len(mutants))
+
+
+def say_all(found: Iterator[Tuple[Mutant, str]], count: int) -> int:
+    """A line for each, and the status: 1 where one lives that is not known to be equal, or one is killed that is."""
+    equal, wrong, alive = known_equal(), 0, 0
+    for mutant, killer in found:
+        why = equal.get(key_of(mutant))
+        alive += not killer
+        wrong += (not killer) != bool(why)
+        said = f"lives, and is equal: {why}" if why else "LIVES"
+        print(f"{mutant.title} {f'killed by {killer}' if killer else said}" + (", and is said to be EQUAL" if killer and why else ""), flush=True)
+    print(f"{count} mutants, {alive} live, {wrong} otherwise than is known")
+    return 1 if wrong else 0
 
 
 if __name__ == "__main__":

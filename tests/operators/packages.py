@@ -46,6 +46,7 @@ def goes_on():
     check("ready behind a look, and watched", (unit["Service"]["Type"], int(unit["Service"]["WatchdogSec"]) > 120, unit["Service"]["RuntimeDirectoryPreserve"]),
           ("notify", True, "yes"))
     check("ready before the runtimes start containers", {"docker.service", "containerd.service", "podman-restart.service"} <= set(unit["Unit"]["Before"].split()), True)
+    check("kept in", [unit["Service"][name] for name in ("NoNewPrivileges", "RestrictAddressFamilies", "IPAddressDeny")], ["yes", "AF_UNIX", "any"])
     check("its temporary files are where it may write anyway", "TMPDIR=/run/numarun" in unit["Service"]["Environment"].split(), True)
     check("not without a machine file", unit["Unit"]["ConditionPathExists"], "/etc/numarun/machine.json")
     check("no limit stands where it counts for nothing", "StartLimitIntervalSec" in unit["Service"], False)

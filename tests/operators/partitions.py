@@ -51,6 +51,13 @@ def over(kernel: Kernel) -> Iterator[None]:
 # By chance.
 
 
+def lines_back() -> List[str]:
+    """What is said where a partition is given back. Where that fails, each line says so."""
+    found = give_back("")
+    check("failed", found.failed, bool(found.lines) and all(line.startswith("failed ") for line in found.lines))
+    return list(found.lines)
+
+
 def begun(system: Cpus, layout: Layout, present: Cpus = PRESENT) -> Ledger:
     machine = SimpleNamespace(present=present)
     return Ledger(dataclasses.replace(Settings(MACHINE, partition=layout, system=system), machine=machine))
@@ -199,7 +206,7 @@ class History:
         for _ in range(self.chance.randrange(3)):
             kernel.kills = self.chance.randrange(4)
             with contextlib.suppress(Killed):
-                give_back("")
+                lines_back()
             kernel.kills = None
             if kernel.record is None:
                 return
@@ -207,7 +214,7 @@ class History:
         free = sorted(self.had - self.cpus_of(path)) if kept and kept.inode == self.inode and TOP == path.rpartition("/")[0] else []
         if free and self.chance.random() < 0.3:
             kernel.make("/c/s", cpus=frozenset(free[:1]), text=ROOT)
-        lines = give_back("") or ["given back"]
+        lines = lines_back() or ["given back"]
         self.judge()
         if any(line.startswith("failed ") for line in lines):
             if kernel.record is None:
@@ -410,7 +417,7 @@ def order() -> None:
             Eyes(kernel, layout).go(asked, lambda seen: partition.next_step(layout, seen, asked))
             check(print_list(asked), (written, kernel.nodes["/c/a/b"].text), ([f"{name} {print_list(asked)}" for name in names], ROOT))
         written.clear()
-        check("given back", (give_back(""), written, sorted(kernel.nodes)),
+        check("given back", (lines_back(), written, sorted(kernel.nodes)),
               (["given back /c/a/b: removed"], ["a/b/cpuset.cpus.partition member", "a/b/cpuset.cpus ", "a/b/cpuset.cpus.exclusive ",
                                                 "a/cpuset.cpus.exclusive "], [TOP]))
 
@@ -443,12 +450,12 @@ def made() -> None:
             check("made", (came(kernel, group), kernel.effective(TOP), kernel.effective(path)), (ROOT, cpus("0"), PRESENT))
             check("the next agent's", came(kernel, group), ROOT)
             check("another one beside", came(kernel, "other"), f"--partition: an agent before made one of {path}: give that back first, by --release")
-            check("given back", (give_back(""), sorted(kernel.nodes), kernel.record), ([f"given back {path}: removed"], [TOP], None))
+            check("given back", (lines_back(), sorted(kernel.nodes), kernel.record), ([f"given back {path}: removed"], [TOP], None))
         kernel.make("/c/pinned", cpus=cpus("4-5"))
-        check("one that was there", (came(kernel, "pinned"), give_back(""), kernel.nodes["/c/pinned"].cpus),
+        check("one that was there", (came(kernel, "pinned"), lines_back(), kernel.nodes["/c/pinned"].cpus),
               (ROOT, ["given back /c/pinned: member"], cpus("4-5")))
         kernel.nodes["/c/pinned"].cpus, kernel.nodes["/c/pinned"].text = PRESENT, ROOT
-        check("one that somebody else made", (came(kernel, "pinned"), give_back(""), kernel.nodes["/c/pinned"].text), (ROOT, [], ROOT))
+        check("one that somebody else made", (came(kernel, "pinned"), lines_back(), kernel.nodes["/c/pinned"].text), (ROOT, [], ROOT))
 
 
 @case
@@ -458,7 +465,7 @@ def given_back() -> None:
     with over(kernel):
         came(kernel, "pinned")
         kernel.make("/c/pinned/x", cpus=cpus("3"), processes=True)
-        check("with processes", (give_back(""), kernel.nodes["/c/pinned"].cpus, kernel.nodes["/c/pinned"].text, kernel.record),
+        check("with processes", (lines_back(), kernel.nodes["/c/pinned"].cpus, kernel.nodes["/c/pinned"].text, kernel.record),
               (["given back /c/pinned: member, cpus 0-7, since it has processes"], CPUS, MEMBER, None))
         kernel.nodes["/c/pinned"].cpus = cpus("1-2")
         came(kernel, "pinned")
@@ -466,16 +473,16 @@ def given_back() -> None:
         kernel.nodes["/c/pinned"].text = MEMBER
         kernel.nodes["/c/beside"].cpus, kernel.nodes["/c/beside"].text = cpus("2"), ROOT
         kernel.nodes["/c/pinned"].cpus = cpus("3-7")
-        check("a partition beside has them", (give_back(""), kernel.nodes["/c/beside"].text, kernel.record is None),
+        check("a partition beside has them", (lines_back(), kernel.nodes["/c/beside"].text, kernel.record is None),
               (["failed /c/beside requests 2"], ROOT, False))
         kernel.nodes["/c/beside"].text = MEMBER
-        check("later", (give_back(""), kernel.record), (["given back /c/pinned: member"], None))
+        check("later", (lines_back(), kernel.record), (["given back /c/pinned: member"], None))
         kernel.nodes["/c/beside"].cpus = kernel.nodes["/c/pinned"].cpus = NO_CPUS
         came(kernel, "a/b")
         kernel.remove("/c/a/b")
         kernel.make("/c/a/b", cpus=cpus("5"))
         before = kernel.now().nodes
-        check("another group", (give_back(""), kernel.nodes == before, kernel.record),
+        check("another group", (lines_back(), kernel.nodes == before, kernel.record),
               (["given back /c/a/b: nothing, since it is another group by now"], True, None))
 
 
@@ -547,10 +554,10 @@ def killed() -> None:
                     is_whole = kernel.kills is None or kernel.kills >= 0
                     kernel.kills = steps[what] if what == "giving back" else None
                     with contextlib.suppress(Killed):
-                        give_back("") if what == "giving back" else came(kernel, group)
+                        lines_back() if what == "giving back" else came(kernel, group)
                     is_whole = is_whole and (kernel.kills is None or kernel.kills >= 0)
                     kernel.kills = None
-                    lines = give_back("")
+                    lines = lines_back()
                     check(f"{group}, {what}, killed before step {steps[what] + 1}",
                           (lines in ([], [f"given back {kernel.tub}: removed"]), sorted(kernel.nodes), kernel.record), (True, [TOP], None))
                 if is_whole:

@@ -13,7 +13,7 @@ import shutil
 import sys
 import tempfile
 from dataclasses import dataclass
-from typing import List, Sequence, Sized
+from typing import List, Sequence
 
 from sites import IN_FOLDERS, Tree, config_of, section_of
 from trial import case, check, failed, scratch, text_of, written
@@ -40,7 +40,7 @@ class Sample:
     program_kib: int
     files: int     # in the agent's folder
     opened: int
-    known: int     # what the agent keeps of containers, groups and pauses
+    known: int     # entries of all that the agent keeps from look to look
     lines: int     # of the log, in this hour
 
 
@@ -116,11 +116,11 @@ class Play:
         gc.collect()
         ledger, run = self.agent.ledger, self.agent.hands.run
         assert run
-        parts: Sequence[Sized] = (ledger.containers, ledger.refused, ledger.blocking, ledger.taken, ledger.renewed, ledger.before, ledger.pauses,
-                                  ledger.problems, ledger.unsaid, self.agent.eyes.configs, self.agent.eyes.found)
+        keepers = (ledger, self.agent.eyes, self.agent.eyes.source, self.agent.eyes.names, self.agent.eyes.groups, self.agent.hands)
+        known = sum(len(part) for keeper in keepers for part in vars(keeper).values() if isinstance(part, (dict, list, set, frozenset)))
         files = sum(len(names) for _, _, names in os.walk(self.tree.at("work")))
         return Sample(number, came, len(self.alive), resident(os.getpid()), resident(run.process.pid), files, len(os.listdir("/proc/self/fd")),
-                      sum(map(len, parts)), lines)
+                      known, lines)
 
     def end(self) -> None:
         self.agent.hands.close()
@@ -134,7 +134,7 @@ def resident(pid: int) -> int:
 def grown(samples: Sequence[Sample]) -> List[str]:
     """What is more at the end than the most of the first hours, beyond what goes up and down with those who are alive."""
     first, last = samples[:WARM], samples[-1]
-    bounds = {"agent_kib": 2048, "program_kib": 512, "files": 4 * ALIVE, "opened": 2, "known": 6 * ALIVE, "lines": 1500}
+    bounds = {"agent_kib": 2048, "program_kib": 512, "files": 4 * ALIVE, "opened": 2, "known": 12 * ALIVE, "lines": 1500}
     found = [(part, max(getattr(sample, part) for sample in first), getattr(last, part)) for part in bounds]
     return [f"{part}: {before} in the first hours, and {now}" for part, before, now in found if now > before + bounds[part]]
 
