@@ -25,17 +25,20 @@ def spare_cpus(turn: Turn) -> Cpus:
     if turn.spare is None:
         turn.spare = free_cpus(turn.ledger) - turn.ledger.reserved
         for container in turn.ledger.containers.values():
-            promise(turn, container)
+            promise(turn, container.given, container.cpus or NO_CPUS)
     return turn.spare
 
 
-def promise(turn: Turn, container: Container) -> None:
-    """Leaves out as many cores at its home as one has yet to get."""
+def promise(turn: Turn, given: Demand, has: Cpus) -> None:
+    """Leaves out what one has that asks for CPUs of its own, and as many cores at its home as it has yet to get."""
     ledger, machine = turn.ledger, turn.ledger.settings.machine
-    lacking = (container.given.count or 0) - len((container.cpus or NO_CPUS) - ledger.reserved)
-    if turn.spare is None or lacking <= 0:
+    lacking = (given.count or 0) - len(has - ledger.reserved)
+    if turn.spare is None or given.count is None:
         return
-    homes = nodes_named(container.given.config)
+    turn.spare -= has
+    if lacking <= 0:
+        return
+    homes = nodes_named(given.config)
     near = frozenset(cpu for cpu in turn.spare if not homes or machine.node_of[cpu] in homes)
     for core in sorted(machine.cores_in(near))[:lacking // machine.threads]:
         turn.spare -= machine.cores[core]
