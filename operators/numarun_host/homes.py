@@ -5,7 +5,7 @@ from __future__ import annotations
 
 import os
 import re
-from typing import Iterator, List, Mapping, Optional, Tuple
+from typing import Iterable, Iterator, List, Mapping, Optional, Tuple
 
 from .configs import CPU, Config, at, memory_asked, nodes_named
 from .cpus import Cpus
@@ -15,19 +15,36 @@ from .script import Refused, read_text
 FAR = 20  # between two nodes where no distances are told
 MEMINFO_BYTES = 1 << 16
 FreeMemory = Mapping[int, Optional[int]]  # the free bytes of each node, nothing where that is not told
+# What the kernel has free, and what it frees once somebody wants memory: on a warm host page cache has nearly all. That of tmpfs is in neither list.
+FREE = ("MemFree", "Active(file)", "Inactive(file)")
+SLABS = ("KReclaimable", "SReclaimable")  # the first one that is told, since it has the other in it
 
 
 def free_memory(folder: str, machine: Machine) -> FreeMemory:
-    """The free bytes of each node with CPUs by its meminfo."""
+    """The bytes of each node with CPUs that are free, or can be freed, by its meminfo."""
     return {node: free_of(folder, node) for node, cpus in enumerate(machine.nodes) if cpus}
 
 
 def free_of(folder: str, node: int) -> Optional[int]:
     try:
-        found = re.search(r"MemFree:\s*([0-9]{1,15}) kB", read_text(os.path.join(folder, f"node{node}", "meminfo"), MEMINFO_BYTES))
+        text = read_text(os.path.join(folder, f"node{node}", "meminfo"), MEMINFO_BYTES)
     except Refused:
         return None
-    return int(found[1]) * 1024 if found else None
+    told = {name: int(kib) * 1024 for name, kib in re.findall(r"([A-Z][\w()]+):\s*([0-9]{1,15}) kB", text)}
+    slabs = next((told[name] for name in SLABS if name in told), 0)
+    return sum(told.get(name, 0) for name in FREE) + slabs if "MemFree" in told else None
+
+
+def beside(memory: FreeMemory, own: Mapping[int, int]) -> FreeMemory:
+    """The same for a container that has so much of each node already."""
+    return {node: free + own.get(node, 0) if free is not None else None for node, free in memory.items()}
+
+
+def has_room(memory: FreeMemory, nodes: Iterable[int], bytes: int) -> bool:
+    """Whether nodes have so many bytes, if that is known of all of them."""
+    free = [memory.get(node) for node in nodes]
+    known = [bytes for bytes in free if bytes is not None]
+    return len(known) < len(free) or sum(known) >= bytes
 
 
 class Vacancy:
@@ -43,9 +60,7 @@ class Vacancy:
         return self.machine.distances[a][b] if self.machine.distances else 10 if a == b else FAR
 
     def suffices(self, nodes: List[int], cores: int, memory: int) -> bool:
-        free = [self.memory.get(node) for node in nodes]
-        known = [bytes for bytes in free if bytes is not None]
-        return sum(self.cores[node] for node in nodes) >= cores and (len(known) < len(free) or sum(known) >= memory)
+        return sum(self.cores[node] for node in nodes) >= cores and has_room(self.memory, nodes, memory)
 
     def around(self, node: int, cores: int, memory: int) -> Iterator[List[int]]:
         """A node and as few others as suffice: the nearest ones, and for each distance the largest that are no farther."""
