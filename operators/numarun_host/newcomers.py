@@ -188,11 +188,11 @@ def is_alone(turn: Turn, sighting: Sighting, cpus: Cpus) -> bool:
 def tell(ledger: Ledger, name: str, sighting: Sighting, way: Way) -> Steps[Reply]:
     """Adopts a container on these CPUs, or makes it on the reserved ones. One that begins on other CPUs than its group requests is a new one for
     the log."""
-    verb = Verb.ADOPT if way.cpus else Verb.CREATE
-    reply = yield from ask(ledger, Tell(verb, name, way.given.config, way.cpus))
+    told = Verb.ADOPT if way.cpus else Verb.CREATE
+    reply = yield from ask(ledger, Tell(told, name, way.given.config, way.cpus))
     if reply.fault is None:
-        said = Verb.CREATE if way.is_new else verb
-        yield Say(f"{said.value} {ledger.title(name)} {sighting.place}" + (f" {print_list(way.cpus)}" if way.cpus else ""))
+        verb = Verb.CREATE if way.is_new else told
+        yield Say(f"{verb.value} {ledger.title(name)} {sighting.place}" + (f" {print_list(way.cpus)}" if way.cpus else ""))
     return reply
 
 
