@@ -33,7 +33,8 @@ class Beginning:
 
 
 def beginnings(turn: Turn, comers: Sequence[Comer]) -> Steps[Dict[str, Beginning]]:
-    """Where each of them begins by a plan. Nobody is named where there is no plan for all of them, and none who is refused."""
+    """Where each of them begins by a plan. Nobody is named where there is no plan for all of them, nor who is refused, or gets no others than the
+    reserved CPUs."""
     ledger, waiting = turn.ledger, those_who_wait(turn.ledger, comers)
     asking = [comer for comer in comers if comer.given.count is not None and comer.name not in waiting]
     trial = Trial(turn)
@@ -48,7 +49,7 @@ def beginnings(turn: Turn, comers: Sequence[Comer]) -> Steps[Dict[str, Beginning
     pool = outcome.pool - (NO_CPUS.union(*had, *(comer.cpus for comer in comers)) - ledger.reserved)
     cpus = {comer.name: pool for comer in comers if comer not in asking}
     cpus.update((comer.name, outcome.holds[comer.name]) for comer in asking if comer.name in outcome.holds)
-    return {name: Beginning(has, name in waiting) for name, has in cpus.items()}
+    return {name: Beginning(has, name in waiting) for name, has in cpus.items() if not has <= ledger.reserved}
 
 
 def those_who_wait(ledger: Ledger, comers: Sequence[Comer]) -> Set[str]:

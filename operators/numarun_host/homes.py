@@ -15,7 +15,8 @@ from .script import Refused, read_text
 FAR = 20  # between two nodes where no distances are told
 MEMINFO_BYTES = 1 << 16
 FreeMemory = Mapping[int, Optional[int]]  # the free bytes of each node, nothing where that is not told
-# What the kernel has free, and what it frees once somebody wants memory: on a warm host page cache has nearly all. That of tmpfs is in neither list.
+# What the kernel has free, and what it frees once somebody wants memory: on a warm host page cache has nearly all.
+# Shared memory and tmpfs are in none of these lists.
 FREE = ("MemFree", "Active(file)", "Inactive(file)")
 SLABS = ("KReclaimable", "SReclaimable")  # the first one that is told, since it has the other in it
 

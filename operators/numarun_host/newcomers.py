@@ -63,7 +63,8 @@ def plan_ways(turn: Turn, come: Mapping[str, Sighting]) -> Steps[Dict[str, Plann
     ledger, present, paths = turn.ledger, turn.ledger.settings.machine.present, set(turn.owners)
     if all(seen.told.is_system or seen.group.cpus & present for seen in come.values()) or not ledger.has_tree or ledger.pool is not None:
         return {}
-    if ledger.ending or turn.strays or still_blocking(turn).keys() - come.keys() or unseen_paths(turn):  # no plan would be made now
+    no_plan = ledger.ending or turn.strays or still_blocking(turn).keys() - come.keys() or unseen_paths(turn)
+    if no_plan or turn.late or ledger.renewed:
         return {}
     planned: Dict[str, Planned] = {}
     comers: List[Comer] = []

@@ -15,8 +15,7 @@ from .notify import IN_THE_MIDST, notify
 from .script import BYTES, Refused
 
 PATIENCE = 120.0  # seconds that an answer may take: a plan of the largest machine takes a few
-# That to a line by which the nodes of a group may be written may take as long as this, since the kernel moves all of its pages first.
-NODES_PATIENCE = 3600.0
+NODES_PATIENCE = 3600.0  # the same of a line by which the nodes of a group may be written: the kernel moves its pages
 MAY_WRITE_NODES = ("create", "adopt", "update")
 PIECE = 1 << 16
 MANY_LINES = ("begin", "rebalance", "certificate", "list")  # commands whose answers end with `end`

@@ -239,7 +239,7 @@ def long_ids():
         check(f"names that are none: {text}", found, {ids[0]: "999999999999"})
     site.come(ids[2], 2)
     status, lines = site.run()
-    check("in the log", (status, of(lines, "create", "hold")), (0, [f"create 777777777777 {site.at('g', ids[2])}", "hold 777777777777 1-2"]))
+    check("in the log", (status, of(lines, "create", "hold")), (0, [f"create 777777777777 {site.at('g', ids[2])} 1-2", "hold 777777777777 1-2"]))
 
 
 @long_case

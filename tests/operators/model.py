@@ -429,7 +429,7 @@ class Agent:
 
     def look(self, troubled: bool) -> None:
         self.said, self.set_back, self.denied, self.is_short, self.is_disturbed, self.has_plan = [], {}, set(), False, False, False
-        is_first = self.ledger.pool is None
+        is_first = self.ledger.pool is None and not self.ledger.renewed
         steps = decide(self.ledger, self.world.look(self.ledger))
         try:
             command = next(steps)
@@ -517,6 +517,7 @@ class Agent:
             self.said.append(command.line)
         kind, _, name = command.line.partition(" ")
         container = self.ledger.containers.get(name)
+        self.is_disturbed = self.is_disturbed or kind == "ended"
         if kind == "ended" and container:
             place = self.world.places.get(container.seen.group.path)
             if place and place.populated and place.inode == container.seen.group.inode:

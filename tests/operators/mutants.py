@@ -27,7 +27,7 @@ from typing import Dict, Iterator, List, Optional, Sequence, Tuple, Type
 
 TOP = pathlib.Path(__file__).resolve().parents[2]
 PACKAGE = pathlib.Path("operators/numarun_host")
-DECIDE = ("changes", "configs", "decide", "homes", "ledger", "newcomers", "placing", "plans", "room", "sightings", "slices", "telling")
+DECIDE = ("beginnings", "changes", "configs", "decide", "homes", "ledger", "newcomers", "placing", "plans", "room", "sightings", "slices", "telling")
 COPIED = ("operators", "tests/operators")
 MOST = 600  # seconds in which a case ends, or else it has seen the mutant
 CASES = ("decided", "parts", "decisions/short", "decisions/long")
