@@ -96,10 +96,13 @@ class Trial:
             return Outcome(reply.first)
         outcome = yield from self.plan()
         if not outcome.is_plan and new:
-            yield from self.ask(f"kill {name} KILL")
-            yield from self.ask(f"delete {name}")
-            self.made.discard(name)
+            yield from self.end(name)
         return outcome
+
+    def end(self, name: str) -> Steps[None]:
+        yield from self.ask(f"kill {name} KILL")
+        yield from self.ask(f"delete {name}")
+        self.made.discard(name)
 
 
 # More.

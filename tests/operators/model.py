@@ -508,7 +508,7 @@ class Agent:
             if not command.trial:
                 self.note_set_back(command, lines[0])
         gets_room = isinstance(command, Tell) and command.verb is Verb.UPDATE and not command.trial and not self.has_plan
-        self.is_short, self.has_plan = self.is_short or lines[0].startswith("short"), self.has_plan or lines[0].startswith("plan") and not command.trial
+        self.is_short, self.has_plan = self.is_short or lines[0].startswith("short") and not command.trial, self.has_plan or lines[0].startswith("plan") and not command.trial
         self.is_disturbed = self.is_disturbed or gets_room or lines[0] == NO_WRITE
         return Answer(lines, (f"{self.world.refused}: Read-only file system",) if lines[0] == NO_WRITE else ())
 

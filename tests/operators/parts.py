@@ -4,12 +4,12 @@ out by hand from the pages of operators/."""
 from __future__ import annotations
 
 import dataclasses
-from typing import Any, Dict, List, Mapping, Optional, Sequence, Tuple
+from typing import Any, Callable, Dict, List, Mapping, Optional, Sequence, Tuple
 
 from decided import EIGHT, FOUR, asks, config_of, container, cpus, done, ledger_of, looked, said, sighting
 from trial import case, check
 from numarun_host import changes, configs, newcomers, plans, room
-from numarun_host.commands import Answer, Ask, Command, Drop, Link, SaveTaken, Taken, Tell, Unlink, Verb, Write
+from numarun_host.commands import Answer, Ask, Command, Drop, Link, SaveTaken, Steps, T, Taken, Tell, Unlink, Verb, Write
 from numarun_host.configs import Demand
 from numarun_host.cpus import print_list
 from numarun_host.ledger import Kind, Ledger, Pause, Problem, State, Topic
@@ -183,6 +183,19 @@ def held_up() -> None:
     check("one of the system", looked(ledger, groups={"/t/x": Group("/t/x", 7, cpus("4"), populated=True)})[1].due, False)
 
 
+def answered(steps: Steps[T], answer: Callable[[str], Sequence[str]]) -> Tuple[List[Command], T]:
+    """What is yielded, and what it ends with; each line for numarun is answered so."""
+    commands: List[Command] = []
+    try:
+        command = next(steps)
+        while True:
+            commands.append(command)
+            command = steps.send(Answer(tuple(answer(command.line) if isinstance(command, Ask) else ["ok"])))
+    except StopIteration as end:
+        found_at_last: T = end.value
+        return commands, found_at_last
+
+
 def trial_of(commands: Sequence[Command], trial: bool) -> List[str]:
     return told_of([command for command in commands if isinstance(command, Tell) and command.trial == trial])
 
@@ -216,7 +229,7 @@ def begins_as_it_can() -> None:
         commands, _ = looked(ledger_of(), {**PLAN, "begin direct": ["plan total 0", "pool 0-7", "end"], **answers}, told=come, groups=groups_of(*come.values()))
         return trial_of(commands, True), trial_of(commands, False)
 
-    check("short", told({"rebalance": ["short demand 9 allowed 1-7", "member a", "end"]}), (["create a -"], ["create a -"]))
+    check("short", told({"rebalance": ["short demand 9 allowed 1-7", "member p", "end"]}), (["create a -"], ["create a -"]))
     check("refused in the trial", told({"rebalance": ["plan total 0", "pool 0-7", "end"]}), (["create a -"], ["create a -"]))
     check("another one's", told({}, found("s", config_of(), "2-3")), (["create a -"], ["create a -", "adopt s 2-3"]))
     check("a write that fails", told({"adopt": ["refused E50 KernelFault"]}), (["create a -"], ["adopt a 1-2", "create a -"]))
@@ -239,6 +252,21 @@ def begins_to_wait() -> None:
     check("told", trial_of(commands, False), ["adopt a 1-2", "adopt b 3-4", "adopt c 0,5-7"])
     check("it waits", (ledger.containers["c"].state, ledger.containers["c"].demand.count, [line for line in said(commands) if "waits" in line]),
           (State.WAITING, 2, ["waits c: it would leave 2 CPUs to the pool, and that keeps 3: it runs on the pool until there is room"]))
+
+
+@case
+def begins_short() -> None:
+    """Who is short in the trial, the youngest first, is on the pool of a plan without it; who has its CPUs already is left in it."""
+    come = {name: found(name, asks(2), has, age=age) for age, (name, has) in enumerate((("a", ""), ("b", ""), ("c", "5-6")))}
+    told = [(name, sighting(f"/t/{name}", each.config, cpus=each.group.cpus)) for name, each in come.items()]
+    turn = Turn(ledger_of(), Look(10.0))
+    turn.there = dict(told)
+    trials = iter([["short demand 9 allowed 1-7", "member c", "member b", "member a", "end"], ["plan total 40", "hold a 1-2", "hold c 5-6", "pool 0,3-4,7", "end"]])
+    commands, planned = answered(newcomers.plan_ways(turn, turn.there), lambda line: next(trials) if line == "rebalance" else ["ok"])
+    check("asked", [each.line for each in commands if isinstance(each, Ask)], ["rebalance", "kill b KILL", "delete b", "rebalance"])
+    ways = {name: one.way for name, one in planned.items() if one.way}
+    check("how they begin", {name: (way.given.count, way.waits, print_list(way.cpus)) for name, way in ways.items()},
+          {"a": (2, False, "1-2"), "b": (None, True, "0,3-4,7"), "c": (2, False, "5-6")})
 
 
 @case
