@@ -201,12 +201,13 @@ def who_is_pinned():
     site.come("part", 0.5)
     site.come("said", 1.5, annotations={"numarun.pin": "true"})
     site.come("listed", "7")
-    for rule, expected in [("all", ["1-2", "3", "4-5", "7"]), ("whole", ["1-2", "0,3-6", "0,3-6", "7"]),
-                           ("annotated", ["0,3-7", "0,3-7", "1-2", "0,3-7"])]:
-        for name in ("whole", "part", "said", "listed"):
+    site.come("left", 2, annotations={"numarun.pin": "false"})
+    for rule, expected in [("all", ["1-2", "3", "4-5", "7", "0,6"]), ("whole", ["1-2", "0,3-6", "0,3-6", "7", "0,3-6"]),
+                           ("annotated", ["0,3-7", "0,3-7", "1-2", "0,3-7", "0,3-7"])]:
+        for name in ("whole", "part", "said", "listed", "left"):
             open(site.at("root/numarun", name, "cpuset.cpus"), "w").close()
         status, _ = site.run("--pin", rule)
-        check(f"--pin {rule}", (status, site.has("whole", "part", "said", "listed")), (0, expected))
+        check(f"--pin {rule}", (status, site.has("whole", "part", "said", "listed", "left")), (0, expected))
 
 
 @case

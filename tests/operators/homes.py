@@ -83,6 +83,20 @@ def kept():
 
 
 @case
+def where_it_is():
+    """What a container has on a node counts for its home there, and one that fits nowhere is named."""
+    site = Site(TWO)
+    site.online("0-7")
+    memory(site, GIB, GIB)
+    for name, gib in (("a", 4), ("b", 3)):
+        site.come(name, linux={"resources": {"cpu": {"quota": 2 * QUOTA, "period": QUOTA}, "memory": {"limit": gib * GIB}}})
+    site.put("numarun/a", "memory.numa_stat", f"anon N0=5 N1=5\ninactive_anon N0=0 N1={GIB}\nactive_anon N0=4096 N1={2 * GIB}\nfile N0={9 * GIB} N1=0")
+    status, lines = site.run("--nodes", site.at("nodes"))
+    named = "note no home for b: no node where it could be has the 3.0 GiB of its memory limit"
+    check("homes", (status, [line for line in lines if "home" in line], site.has("a")), (0, ["home a 1", named], ["4-5"]))
+
+
+@case
 def none():
     """Without homes each CPU is as near as another, and all nodes are its memory."""
     site = Site(TWO)
