@@ -51,7 +51,7 @@ from .looking import Eyes
 from .machine import Machine
 from .program import PATIENCE
 from .records import KEPT, Certificates
-from .release import release
+from .release import is_kept, release
 from .reports import status_of
 from .runtimes import ALL, NAMES, Watch, runtimes_named, watches_of
 from .script import Refused, check_program, find_program
@@ -62,6 +62,7 @@ from .taken import Record, read_record, whole_machine
 
 EXAMPLE = f"""what a container says of itself, by an annotation, or a variable of its process's environment:
   {PIN}=true    NUMARUN_PIN=true    with --pin annotated: it gets CPUs of its own
+  {PIN}=false   NUMARUN_PIN=false   it runs on the pool, whatever its limit
   {LEAST}=N     NUMARUN_LEAST=N     where there are no more it takes as few as these
   {STAY}=true   NUMARUN_STAY=true   no plan moves it
   {NEAR}=NAME   NUMARUN_NEAR=NAME   its home is the node of this network interface, block device or PCI address
@@ -339,6 +340,8 @@ def main() -> int:
     if subcommand == "check-config":
         return check_config(words)
     if words.release:
+        if not is_kept(words.work):
+            print(f"nothing was kept in {words.work}")
         return release(words.cgroup, words.work, [group for group in words.groups if group != EACH])
     machine = Machine(words.machine)
     check_program(words.program)

@@ -16,6 +16,7 @@ FILE_BYTES = 1 << 16
 LIMIT = "cpu.max"
 EACH = "/"
 READ = ("cpuset.cpus", "cpuset.mems", "cpuset.cpus.effective", LIMIT, "cgroup.events")
+ANON = ("inactive_anon", "active_anon", "unevictable")  # what of a group's memory is no page cache that can be freed; shared memory is in it
 PIECE = 400  # bytes into which most files of a group fit
 FLAGS = os.O_RDONLY | os.O_CLOEXEC | os.O_NONBLOCK
 Raw = Tuple[Optional[bytes], ...]
@@ -49,6 +50,15 @@ def text_in(found: Optional[bytes]) -> Optional[str]:
 def read_file(path: str) -> Optional[str]:
     """A file of a group, or nothing."""
     return text_in(read_raw(path))
+
+
+def memory_by_node(path: str) -> Dict[int, int]:
+    """The bytes that a group has of each node, but for page cache, which counts as free there."""
+    found: Dict[int, int] = {}
+    for line in (read_file(f"{path}/memory.numa_stat") or "").splitlines():
+        for node, bytes in re.findall(r" N([0-9]{1,4})=([0-9]{1,18})", line) if line.startswith(ANON) else []:
+            found[int(node)] = found.get(int(node), 0) + int(bytes)
+    return found
 
 
 def set_in(text: Optional[str]) -> Optional[Cpus]:

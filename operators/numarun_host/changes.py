@@ -35,6 +35,7 @@ def end(turn: Turn, container: Container) -> Steps[None]:
     yield from give_back_at_the_end(turn, container)
     del ledger.containers[name]
     ledger.forget(name)
+    turn.late = turn.late or turn.came_anew(seen.group)
     if not seen.told.is_system and not turn.came_anew(seen.group) and seen.group.path in ledger.taken:
         del ledger.taken[seen.group.path]
         turn.unsaved = True

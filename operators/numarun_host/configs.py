@@ -3,7 +3,7 @@
 from __future__ import annotations
 
 import json
-from dataclasses import dataclass
+from dataclasses import dataclass, field
 from enum import Enum
 from typing import Dict, Mapping, Optional, Tuple
 
@@ -16,7 +16,7 @@ Limit = Tuple[int, int]  # a quota and a period, in microseconds
 
 CPU = ("linux", "resources", "cpu")
 # What a container says of itself, by an annotation or a variable of its process's environment, as NUMARUN_STAY=true.
-PIN = "numarun.pin"      # that it is to get CPUs of its own, where --pin annotated asks for that
+PIN = "numarun.pin"      # that it is to get CPUs of its own, where --pin annotated asks for that; or, by `false`, that it is not
 LEAST = "numarun.least"  # that it takes so few CPUs, where there are no more
 STAY = "numarun.stay"    # that it is never moved
 NEAR = "numarun.near"    # that its home is the node of this device
@@ -34,10 +34,12 @@ class Pin(Enum):
 
 @dataclass(frozen=True)
 class Demand:
-    """A config, and how many CPUs of its own it asks for, or nothing where it is shared."""
+    """A config, and how many CPUs of its own it asks for, or nothing where it is shared; and whether it has no home since no node has memory
+    enough."""
 
     config: Config
     count: Optional[int]
+    lacks_memory: bool = field(default=False, compare=False)
 
 
 def parse_text(text: str, place: str) -> Dict[str, object]:
@@ -93,7 +95,7 @@ def asked(config: Config, rule: Pin, machine: Machine) -> Optional[int]:
         count = len(machine.cores_in(read_list(cpus, "cpus") - machine.reserved)) * machine.threads
     else:
         return None
-    if rule is Pin.ANNOTATED and wish_of(config, PIN) != "true":
+    if is_left_out(config) or rule is Pin.ANNOTATED and wish_of(config, PIN) != "true":
         return None
     return max(1, -(-count // machine.threads)) * machine.threads
 
@@ -132,6 +134,11 @@ def bare(cpus: Cpus, nodes: Cpus) -> Demand:
 def housed(config: Config, nodes: Cpus) -> Config:
     """The same config with these nodes of memory."""
     return of_section(config, mems=print_list(nodes))
+
+
+def is_left_out(config: Config) -> bool:
+    """Whether it wants no CPUs of its own, whatever else it asks for."""
+    return wish_of(config, PIN) == "false"
 
 
 def stays(config: Config) -> bool:

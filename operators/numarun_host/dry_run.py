@@ -19,7 +19,7 @@ from dataclasses import dataclass
 from typing import Dict, List, Optional
 
 from .answers import Answers, Plan, counted
-from .configs import NEAR, Config, Pin, asked, cpus_allowed, housed, nodes_named, parse_text, shared, wish_of
+from .configs import NEAR, Config, Pin, asked, cpus_allowed, housed, is_left_out, nodes_named, parse_text, shared, wish_of
 from .cpus import NO_CPUS, Cpus, print_list, read_list
 from .devices import node_of_device
 from .explain import explain, laid_out
@@ -89,7 +89,7 @@ def with_home(rehearsal: Rehearsal, before: Dict[str, Cpus], bundle: str) -> Hou
         free &= cpus_allowed(config, machine.present)
     except Refused:
         return Housed(bundle)  # numarun refuses it
-    if count is None and rather is not None:
+    if count is None and (rather is not None or is_left_out(config)):
         return Housed(written(rehearsal, shared(config).config))
     if words.home == "none" or not count:
         return Housed(bundle)

@@ -3,7 +3,7 @@ and enough free memory."""
 
 from __future__ import annotations
 
-from typing import Iterator, List, Mapping, Optional, Tuple
+from typing import Iterable, Iterator, List, Mapping, Optional, Tuple
 
 from .configs import CPU, Config, at, memory_asked, nodes_named
 from .cpus import Cpus
@@ -11,6 +11,18 @@ from .machine import Machine
 
 FAR = 20  # between two nodes where no distances are told
 FreeMemory = Mapping[int, Optional[int]]  # the free bytes of each node, nothing where that is not told
+
+
+def beside(memory: FreeMemory, own: Mapping[int, int]) -> FreeMemory:
+    """The same for a container that has so much of each node already."""
+    return {node: free + own.get(node, 0) if free is not None else None for node, free in memory.items()}
+
+
+def has_room(memory: FreeMemory, nodes: Iterable[int], bytes: int) -> bool:
+    """Whether nodes have so many bytes, if that is known of all of them."""
+    free = [memory.get(node) for node in nodes]
+    known = [bytes for bytes in free if bytes is not None]
+    return len(known) < len(free) or sum(known) >= bytes
 
 
 class Vacancy:
@@ -26,9 +38,7 @@ class Vacancy:
         return self.machine.distances[a][b] if self.machine.distances else 10 if a == b else FAR
 
     def suffices(self, nodes: List[int], cores: int, memory: int) -> bool:
-        free = [self.memory.get(node) for node in nodes]
-        known = [bytes for bytes in free if bytes is not None]
-        return sum(self.cores[node] for node in nodes) >= cores and (len(known) < len(free) or sum(known) >= memory)
+        return sum(self.cores[node] for node in nodes) >= cores and has_room(self.memory, nodes, memory)
 
     def around(self, node: int, cores: int, memory: int) -> Iterator[List[int]]:
         """A node and as few others as suffice: the nearest ones, and for each distance the largest that are no farther."""

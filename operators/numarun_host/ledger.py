@@ -60,6 +60,7 @@ class Sighting:
     stopped: bool = False
     near: Optional[int] = None  # the node of the device that it names
     listed: Optional[str] = None
+    memory: Mapping[int, int] = field(default_factory=dict, compare=False)  # what it has of each node already, where that counts
 
     @property
     def asks(self) -> Tuple[object, ...]:
@@ -87,6 +88,7 @@ class Container:
     nodes: Optional[Cpus] = None
     followed: Optional[Cpus] = None  # the nodes that somebody gave its group, where it was told with these
     home: Optional[Cpus] = None
+    homeless: bool = False  # whether no node has memory enough for it
 
     @property
     def stays(self) -> bool:

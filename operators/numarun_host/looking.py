@@ -6,8 +6,8 @@ import os
 import stat
 from typing import Dict, FrozenSet, Mapping, Optional, Set, Tuple, Union
 
-from .cgroups import Groups, group_path, has_ended, read_file, read_json
-from .configs import NEAR, Config, wish_of
+from .cgroups import Groups, group_path, has_ended, memory_by_node, read_file, read_json
+from .configs import NEAR, Config, memory_asked, wish_of
 from .cpus import read_list
 from .devices import node_of_device
 from .homes import FreeMemory
@@ -85,7 +85,8 @@ class Eyes:
             return before
         device = wish_of(config, NEAR)
         near = None if device is None else node_of_device(device, self.sysfs)
-        found = self.found[name] = Found(told, stamp, config, group, there.st_mtime_ns, stopped, near)
+        memory = memory_by_node(place) if self.counts_memory and name not in ledger.containers and memory_asked(config) else {}
+        found = self.found[name] = Found(told, stamp, config, group, there.st_mtime_ns, stopped, near, memory)
         return found
 
     def config(self, name: str, stamp: Stamp, path: str) -> Config:
@@ -133,6 +134,9 @@ class Eyes:
         strange = (listed if effective is None else effective) - machine.present
         return Online(there & machine.present, strange, (listed - there) & machine.present, not self.online_path)
 
+    @property
+    def counts_memory(self) -> bool:
+        return self.settings.homes and self.groups is not None and len(self.settings.machine.nodes) > 1
+
     def memory(self) -> FreeMemory:
-        machine = self.settings.machine
-        return free_memory(self.nodes, machine) if self.settings.homes and self.groups and len(machine.nodes) > 1 else {}
+        return free_memory(self.nodes, self.settings.machine) if self.counts_memory else {}

@@ -6,8 +6,9 @@ import dataclasses
 import re
 from collections import Counter
 from dataclasses import dataclass
-from typing import Dict, List, Optional
+from typing import Dict, List, Mapping, Optional
 
+from .beginnings import Comer, beginnings
 from .commands import Drop, Link, SaveTaken, Say, Steps, Taken, Tell, Unlink, Verb
 from .configs import Demand, bare, fewer, shared, stays, staying
 from .cpus import NO_CPUS, Cpus, print_list
@@ -21,11 +22,21 @@ ID = re.compile(r"[A-Za-z0-9_.+-]{1,64}")
 
 @dataclass(frozen=True)
 class Way:
-    """How a container may be told: with which demand, whether it waits then, and the CPUs that it begins on."""
+    """How a container may be told: with which demand, whether it waits then, and the CPUs that it begins on, which may be other ones than its
+    group requests."""
 
     given: Demand
     waits: bool
     cpus: Cpus
+    is_new: bool = False
+
+
+@dataclass(frozen=True)
+class Planned:
+    """What one that comes asks for, and how it is told by a plan that is not made yet, if it is."""
+
+    demand: Demand
+    way: Optional[Way] = None
 
 
 def take_all(turn: Turn) -> Steps[bool]:
@@ -38,11 +49,40 @@ def take_all(turn: Turn) -> Steps[bool]:
     yield from keep_what_they_had(turn, [come[name] for name in names])
     turn.owners = {container.seen.group.path: name for name, container in ledger.containers.items()} if ledger.has_tree else {}
     turn.users, turn.spare, taken = None, None, False
+    planned = yield from plan_ways(turn, {name: come[name] for name in names})
     for name in names:
         if ledger.ending:
             return True
-        taken = (yield from take_up(turn, name, come[name])) or taken
+        taken = (yield from take_up(turn, name, come[name], planned.get(name))) or taken
     return taken
+
+
+def plan_ways(turn: Turn, come: Mapping[str, Sighting]) -> Steps[Dict[str, Planned]]:
+    """What those who come ask for, and how each is told on the CPUs of a plan, if nobody else requests any of these; only where somebody comes who
+    requests none. Nothing behind the first plan of a run, for then those on the pool have all other CPUs."""
+    ledger, present, paths = turn.ledger, turn.ledger.settings.machine.present, set(turn.owners)
+    if all(seen.told.is_system or seen.group.cpus & present for seen in come.values()) or not ledger.has_tree or ledger.pool is not None:
+        return {}
+    no_plan = ledger.ending or turn.strays or still_blocking(turn).keys() - come.keys() or unseen_paths(turn)
+    if no_plan or turn.late or ledger.renewed:
+        return {}
+    planned: Dict[str, Planned] = {}
+    comers: List[Comer] = []
+    for name, seen in come.items():
+        if is_id(name) and not seen.told.is_system and seen.group.path not in paths:
+            demand = demand_of(turn, seen)
+            first = ways_of(turn, seen, demand, seen.group.cpus & present)[0]
+            promise(turn, first.given, first.cpus)
+            paths.add(seen.group.path)
+            planned[name] = Planned(demand)
+            comers.append(Comer(name, first.given, first.cpus, bool(first.cpus) and is_alone(turn, seen, first.cpus)))
+    found, turn.spare = (yield from beginnings(turn, comers)), None
+    for name, begins in found.items():
+        demand = planned[name].demand
+        way = Way(shared(demand.config) if begins.waits else demand, begins.waits, begins.cpus, is_new=True)
+        if way.given.count is None or is_alone(turn, come[name], way.cpus):
+            planned[name] = Planned(demand, way)
+    return planned if found else {}
 
 
 def is_new(turn: Turn, name: str, sighting: Sighting) -> bool:
@@ -70,10 +110,14 @@ def keep_what_they_had(turn: Turn, come: List[Sighting]) -> Steps[None]:
         yield SaveTaken(ledger.all_taken)
 
 
-def take_up(turn: Turn, name: str, sighting: Sighting) -> Steps[bool]:
+def is_id(name: str) -> bool:
+    return ID.fullmatch(name) is not None and name not in (".", "..")
+
+
+def take_up(turn: Turn, name: str, sighting: Sighting, planned: Optional[Planned]) -> Steps[bool]:
     """Tells of a container that is there; whether it was taken."""
     ledger, owner = turn.ledger, turn.owners.get(sighting.group.path)
-    if not ID.fullmatch(name) or name in (".", ".."):
+    if not is_id(name):
         return (yield from refuse(turn, name, sighting, Reply(("refused E91 BadId",)), NO_CPUS))
     if owner:
         text = f": its group is that of {ledger.title(owner)}: {ledger.title(name)} {sighting.place}"
@@ -81,18 +125,25 @@ def take_up(turn: Turn, name: str, sighting: Sighting) -> Steps[bool]:
         yield from report(ledger, Topic.CONTAINER, name, Kind.REFUSED, text)
         return False
     cpus = sighting.group.cpus & ledger.settings.machine.present
-    demand = demand_of(turn, sighting)
+    planned = planned or Planned(demand_of(turn, sighting))
+    demand = planned.demand
     yield Link(name, sighting.group.path)
     fault: Optional[Reply] = None
-    for way in ways_of(turn, sighting, demand, cpus):
+    for way in with_plan(ways_of(turn, sighting, demand, cpus), planned.way):
         reply = yield from tell(ledger, name, sighting, way)
-        if reply.fault != NOT_FREE and reply.fault not in CONFIG_FAULTS:
+        if reply.fault != NOT_FREE and reply.fault not in CONFIG_FAULTS and not (way.is_new and reply.fault):
             break
-        fault = fault if reply.fault == NOT_FREE else reply
+        fault = reply if reply.fault in CONFIG_FAULTS else fault
     if reply.fault is not None:
-        return (yield from refuse(turn, name, sighting, reply, cpus))
+        return (yield from refuse(turn, name, sighting, reply, cpus | planned.way.cpus if planned.way else cpus))
     yield from hold(turn, name, sighting, demand, way, cpus, fault)
     return True
+
+
+def with_plan(ways: List[Way], way: Optional[Way]) -> List[Way]:
+    """The same with that of a plan before the first one by which it would be on the reserved CPUs."""
+    at = next(at for at, other in enumerate(ways) if not other.cpus)
+    return [*ways[:at], way, *ways[at:]] if way else ways
 
 
 def ways_of(turn: Turn, sighting: Sighting, demand: Demand, cpus: Cpus) -> List[Way]:
@@ -136,10 +187,12 @@ def is_alone(turn: Turn, sighting: Sighting, cpus: Cpus) -> bool:
 
 
 def tell(ledger: Ledger, name: str, sighting: Sighting, way: Way) -> Steps[Reply]:
-    """Adopts a container on these CPUs, or makes it on the reserved ones."""
-    verb = Verb.ADOPT if way.cpus else Verb.CREATE
-    reply = yield from ask(ledger, Tell(verb, name, way.given.config, way.cpus))
+    """Adopts a container on these CPUs, or makes it on the reserved ones. One that begins on other CPUs than its group requests is a new one for
+    the log."""
+    told = Verb.ADOPT if way.cpus else Verb.CREATE
+    reply = yield from ask(ledger, Tell(told, name, way.given.config, way.cpus))
     if reply.fault is None:
+        verb = Verb.CREATE if way.is_new else told
         yield Say(f"{verb.value} {ledger.title(name)} {sighting.place}" + (f" {print_list(way.cpus)}" if way.cpus else ""))
     return reply
 
@@ -158,7 +211,7 @@ def hold(turn: Turn, name: str, sighting: Sighting, demand: Demand, way: Way, cp
     ledger.forget(name, Topic.CONTAINER, Topic.DRIFT, Topic.SQUEEZED)
     if not way.waits:
         yield from say_home(ledger, name)
-    promise(turn, container)
+    promise(turn, given, has or NO_CPUS)
     if refused:
         where = "it stays as it was" if given.count else "it runs on the pool"
         yield from report(ledger, Topic.CONTAINER, name, Kind.REFUSED, f"{refused.refusal}: {ledger.title(name)} {sighting.place}: {where}")
@@ -209,11 +262,16 @@ def unseen_paths(turn: Turn) -> List[str]:
             if not taken.system and path not in known and turn.runs(path, taken.inode) and has_some(turn, path)]
 
 
+def still_blocking(turn: Turn) -> Dict[str, Sighting]:
+    """Those who can't be told of at the moment, and are there or have a process."""
+    return {name: seen for name, seen in turn.ledger.blocking.items() if name in turn.there or turn.runs(seen.group.path, seen.group.inode)}
+
+
 def is_held_up(turn: Turn) -> Steps[bool]:
     """Whether somebody runs on CPUs of which numarun does not know, as who can't be told of at the moment, so that a plan might give these to
     others; says who."""
-    ledger, there = turn.ledger, turn.there
-    ledger.blocking = {name: seen for name, seen in ledger.blocking.items() if name in there or turn.runs(seen.group.path, seen.group.inode)}
+    ledger = turn.ledger
+    ledger.blocking = still_blocking(turn)
     unseen = unseen_paths(turn)
     for topic, of in [key for key in ledger.problems if key[0] is Topic.UNSEEN and key[1] not in unseen]:
         ledger.settle(topic, of)

@@ -7,6 +7,7 @@ import os
 import socket
 
 READY, WORKS, ENDS = "READY=1", "WATCHDOG=1", "STOPPING=1"
+IN_THE_MIDST = f"{WORKS}\nEXTEND_TIMEOUT_USEC=60000000"  # it works, and where it is not ready yet it is waited for another minute
 
 
 def patience_of_watchdog() -> float:

@@ -6,8 +6,8 @@ from typing import List, Set
 
 from .commands import Ask, KeepCertificate, Level, RunPool, Say, Steps
 from .configs import staying
-from .cpus import NO_CPUS, print_list
-from .ledger import Kind, Ledger, State, Topic, report
+from .cpus import NO_CPUS, Cpus, print_list
+from .ledger import Container, Kind, Ledger, State, Topic, report
 from .room import Outcome, ease, make_room, outcome_of, say_fewer, spare_the_pool
 from .telling import BAD_LINE, Turn, ask, requested, tell_update
 
@@ -50,7 +50,7 @@ def plan(turn: Turn) -> Steps[None]:
     for line in [outcome.text, *changes] if changes != ledger.tried else []:
         yield Say(line)
     ledger.tried = changes
-    moves = sum(len(cpus - (ledger.containers[name].cpus or NO_CPUS)) for name, cpus in outcome.holds.items())
+    moves = sum(len(cpus - had(ledger.containers[name])) for name, cpus in outcome.holds.items())
     if (yield from hand_over(turn, outcome)):
         count_plan(ledger, outcome, moves)
 
@@ -79,8 +79,14 @@ def keep_certificate(ledger: Ledger) -> Steps[None]:
 
 def changes_of(ledger: Ledger, outcome: Outcome) -> List[str]:
     """The lines of what a plan changes."""
-    lines = [f"hold {ledger.title(name)} {print_list(cpus)}" for name, cpus in outcome.holds.items() if cpus != ledger.containers[name].cpus]
+    lines = [f"hold {ledger.title(name)} {print_list(cpus)}" for name, cpus in outcome.holds.items() if cpus != had(ledger.containers[name])]
     return lines + ([f"pool {print_list(outcome.pool)}"] if outcome.pool != ledger.pool else [])
+
+
+def had(container: Container) -> Cpus:
+    """The CPUs that one had before the plan: of one that comes, and may have begun on those of the plan, only what its group requested."""
+    has = container.cpus or NO_CPUS
+    return has & container.seen.group.cpus if container.state is State.ASKING else has
 
 
 def count_plan(ledger: Ledger, outcome: Outcome, moves: int) -> None:

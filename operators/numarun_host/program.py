@@ -11,9 +11,12 @@ import tempfile
 import time
 from typing import Callable, Iterable, List, Optional, Sequence
 
+from .notify import IN_THE_MIDST, notify
 from .script import BYTES, Refused
 
 PATIENCE = 120.0  # seconds that an answer may take: a plan of the largest machine takes a few
+NODES_PATIENCE = 3600.0  # the same of a line by which the nodes of a group may be written: the kernel moves its pages
+MAY_WRITE_NODES = ("create", "adopt", "update")
 PIECE = 1 << 16
 MANY_LINES = ("begin", "rebalance", "certificate", "list")  # commands whose answers end with `end`
 
@@ -69,8 +72,11 @@ class Run:
                 lines.append(self.line(asked))
         return lines
 
+    def patience_for(self, asked: str) -> float:
+        return max(self.patience, NODES_PATIENCE) if asked.split(" ")[0] in MAY_WRITE_NODES else self.patience
+
     def line(self, asked: str) -> str:
-        until = time.monotonic() + self.patience
+        until = time.monotonic() + self.patience_for(asked)
         while b"\n" not in self.rest:
             self.await_one([self.stdout], [], until, asked)
             piece = os.read(self.stdout.fileno(), PIECE)
@@ -90,10 +96,12 @@ class Run:
                 self.process.kill()  # each of its writes is safe, and it may hold the lock of a tree
                 if ends is not None:
                     raise Interrupted(f"{self.program}: no answer to {asked!r} where it is to end")
-                raise Refused(f"{self.program}: no answer to {asked!r} in {self.patience:g} s")
+                raise Refused(f"{self.program}: no answer to {asked!r} in {self.patience_for(asked):g} s")
             ready, able, _ = select.select(readers, writers, [], min(left, 0.5))
             if ready or able:
                 return
+            if ends is None and self.patience_for(asked) > self.patience:
+                notify(IN_THE_MIDST)
 
     def said(self) -> List[str]:
         """The lines on standard error since the last time that this was asked."""
@@ -123,7 +131,8 @@ class Run:
             self.process.wait(self.patience if self.ends() is None else 5)
         except subprocess.TimeoutExpired:
             self.process.kill()
-            self.process.wait()
+            with contextlib.suppress(subprocess.TimeoutExpired):  # it ends behind a write that the kernel is in the midst of
+                self.process.wait(5)
 
     def close(self) -> None:
         self.end_input()

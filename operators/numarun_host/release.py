@@ -11,6 +11,7 @@ from .cgroups import LIMIT, limit_in, read_file
 from .commands import Taken
 from .links import CPUS_IN_EFFECT, NODES_IN_EFFECT, Links
 from .partition_files import give_back as give_partition_back
+from .partition_files import read_before
 from .slices import FILES
 from .taken import Whole, read_record, write_file, write_limit
 
@@ -41,6 +42,11 @@ def release(root: str, work: str, slices: Sequence[str]) -> int:
     elif os.path.exists(record.path):
         os.remove(record.path)
     return status
+
+
+def is_kept(work: str) -> bool:
+    """Whether an agent has kept something that can be given back."""
+    return bool(read_record(work).groups) or read_before(work) is not None
 
 
 def give_back(path: str, taken: Taken, whole: Whole) -> Optional[str]:

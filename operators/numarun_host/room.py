@@ -96,10 +96,13 @@ class Trial:
             return Outcome(reply.first)
         outcome = yield from self.plan()
         if not outcome.is_plan and new:
-            yield from self.ask(f"kill {name} KILL")
-            yield from self.ask(f"delete {name}")
-            self.made.discard(name)
+            yield from self.end(name)
         return outcome
+
+    def end(self, name: str) -> Steps[None]:
+        yield from self.ask(f"kill {name} KILL")
+        yield from self.ask(f"delete {name}")
+        self.made.discard(name)
 
 
 # More.
@@ -290,9 +293,10 @@ def shrink(turn: Turn, name: str, missing: int) -> Steps[bool]:
 def make_wait(turn: Turn, name: str, why: str) -> Steps[bool]:
     """Lets one run on the pool until there is room; whether it does."""
     container = turn.ledger.containers[name]
-    if container.given.count is None or not (yield from tell_update(turn, name, shared(container.demand.config), quiet=True)):
+    demand = container.wanted or container.demand
+    if container.given.count is None or not (yield from tell_update(turn, name, shared(demand.config), quiet=True)):
         return False
-    turn.ledger.change(name, state=State.WAITING, wanted=None)
+    turn.ledger.change(name, state=State.WAITING, demand=demand, wanted=None)
     yield from say_waits(turn, name, why)
     return True
 

@@ -65,6 +65,7 @@ class Found:
     age: int = 0
     stopped: bool = False
     near: Optional[int] = None  # the node of the device that it names
+    memory: Mapping[int, int] = field(default_factory=dict, compare=False)  # the bytes that its group has of each node, where these count
 
 
 @dataclass(frozen=True)

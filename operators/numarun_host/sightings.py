@@ -78,7 +78,7 @@ def sighting_of(ledger: Ledger, name: str, found: Found) -> Sighting:
     if before and before.found is found and before.container is container and before.taken is taken:
         return before.sighting
     sighting = Sighting(found.told, found.stamp, found.config, found.group, *limits(ledger, name, found), found.age, found.stopped, found.near,
-                        list_of(ledger, found))
+                        list_of(ledger, found), found.memory)
     if container and container.seen == sighting:
         sighting = container.seen
     ledger.sighted[name] = Sighted(found, container, taken, sighting)

@@ -50,12 +50,12 @@ def restart():
         site.come(name, count)
     status, lines = site.run()
     check("a first run", (status, site.has("a", "b", "s")), (0, ["1-2", "3-5", "0,6-7"]))
-    check("two writes each", len(site.log()), 6)
+    check("one write each", sorted(site.log()), ["a 1-2", "b 3-5", "s 0,6-7"])
     site.go("a")
     site.come("c", 1)
     status, lines = site.run()
     check("a second one", (status, site.has("b", "c", "s")), (0, ["3-5", "1", "0,2,6-7"]))
-    check("it adopts", lines[:3], [f"adopt b {site.at('g/b')} 3-5", f"adopt s {site.at('g/s')} 0,6-7", f"create c {site.at('g/c')}"])
+    check("it adopts", lines[:3], [f"adopt b {site.at('g/b')} 3-5", f"adopt s {site.at('g/s')} 0,6-7", f"create c {site.at('g/c')} 1"])
     writes = site.log()
     check("what runs is not squeezed", [line for line in writes if line in ("b 0", "s 0")], [])
     status, lines = site.run()
@@ -71,7 +71,7 @@ def under_its_id():
     site.come("a", 2)
     site.come("ghost", 1, group=False)
     agent = Open(site)
-    check("the others go on", agent.until("absent"), [f"create a {site.at('g/a')}", "plan total 20", "hold a 1-2", "pool 0,3-7", "done",
+    check("the others go on", agent.until("absent"), [f"create a {site.at('g/a')} 1-2", "plan total 20", "hold a 1-2", "pool 0,3-7", "done",
                                                       f"absent ghost: {site.at('root/numarun/ghost')}: no such group"])
     site.make_group("ghost")
     agent.until("done")
@@ -201,12 +201,13 @@ def who_is_pinned():
     site.come("part", 0.5)
     site.come("said", 1.5, annotations={"numarun.pin": "true"})
     site.come("listed", "7")
-    for rule, expected in [("all", ["1-2", "3", "4-5", "7"]), ("whole", ["1-2", "0,3-6", "0,3-6", "7"]),
-                           ("annotated", ["0,3-7", "0,3-7", "1-2", "0,3-7"])]:
-        for name in ("whole", "part", "said", "listed"):
+    site.come("left", 2, annotations={"numarun.pin": "false"})
+    for rule, expected in [("all", ["1-2", "3", "4-5", "7", "0,6"]), ("whole", ["1-2", "0,3-6", "0,3-6", "7", "0,3-6"]),
+                           ("annotated", ["0,3-7", "0,3-7", "1-2", "0,3-7", "0,3-7"])]:
+        for name in ("whole", "part", "said", "listed", "left"):
             open(site.at("root/numarun", name, "cpuset.cpus"), "w").close()
         status, _ = site.run("--pin", rule)
-        check(f"--pin {rule}", (status, site.has("whole", "part", "said", "listed")), (0, expected))
+        check(f"--pin {rule}", (status, site.has("whole", "part", "said", "listed", "left")), (0, expected))
 
 
 @case
@@ -293,12 +294,12 @@ def flapping():
 
 @long_case
 def storm(count=400):
-    """400 containers at once: one plan, and two writes each. They end at once, too."""
+    """400 containers at once: one plan, and one write each. They end at once, too."""
     site = Site({"nodes": ["0-127"], "distances": [[10]], "reserved": "0"})
     for k in range(count):
         site.come(f"c{k:03}", int(k % 5 == 0))
     status, lines = site.run()
-    check("a storm", (status, len(site.log()), sum(line.startswith("plan") for line in lines)), (0, 2 * count, 1))
+    check("a storm", (status, len(site.log()), sum(line.startswith("plan") for line in lines)), (0, count, 1))
     agent = Open(site)
     agent.until("done")
     for k in range(1, count):
@@ -318,7 +319,7 @@ def rest():
     agent = Open(site, "--rest", "system.slice,/user.slice/,init.scope")
     lines = agent.until("done")
     check("the rest of the machine", sorted(line for line in lines if line.startswith(("create", "adopt", "absent"))),
-          [f"adopt system.slice {site.at('root/system.slice')} 0-7", f"create a {site.at('g/a')}"])
+          [f"adopt system.slice {site.at('root/system.slice')} 0,3-7", f"create a {site.at('g/a')} 1-2"])
     site.make_group("x", group="user.slice")
     agent.until("done")
     has = [open(site.at("root", name, "cpuset.cpus")).read() for name in ("system.slice", "user.slice", "numarun/a")]
@@ -338,7 +339,7 @@ def recorded():
     check("a plan", site.run(*more)[0], 0)
     figures = dict(line.split(" ") for line in open(site.at("numarun.prom")).read().splitlines() if not line.startswith("#"))
     del figures["numarun_look_timestamp_seconds"]
-    expected = {"plans_total": "1", "moves_total": "5", "steps_total": "2", "waited_seconds_total": "0", "squeezed_seconds_total": "0", "shortages_total": "0", "refused_writes_total": "0", "distance": "61", "distance_beyond_local": "11",
+    expected = {"plans_total": "1", "moves_total": "5", "steps_total": "1", "waited_seconds_total": "0", "squeezed_seconds_total": "0", "shortages_total": "0", "refused_writes_total": "0", "distance": "61", "distance_beyond_local": "11",
                 "containers_pinned": "1", "containers_shared": "1", "containers_waiting": "0", "containers_squeezed": "0", "partition_valid": "1", "loose_processes": "0", "undone": "0"}
     check("its figures", figures, {f"numarun_{name}": figure for name, figure in expected.items()})
     site.come("big", 4)

@@ -1,5 +1,5 @@
 """Tries the dashboard of examples/: its queries name figures that the agent leaves, each figure has a place on it, and, where Debian's promtool is,
-they come to what the figures say, in Prometheus's own words."""
+they come to what the figures say, in Prometheus's own words. So are the alerts of the log's page."""
 
 from __future__ import annotations
 
@@ -11,9 +11,10 @@ import subprocess
 from typing import Dict, Iterator, List, Tuple
 
 from sites import Site
-from trial import EXAMPLES, case, check
+from trial import EXAMPLES, OPERATORS, case, check, scratch, text_of, written
 from numarun_host.records import FIGURES
 
+LOG = os.path.join(OPERATORS, "log.md")
 BOARD = json.load(open(os.path.join(EXAMPLES, "dashboards", "grafana.json")))
 VARIABLES = {"$instance": ".*", "$__rate_interval": "5m"}
 HOURS = 2
@@ -89,3 +90,39 @@ def asks_prometheus() -> None:
     ran = subprocess.run([promtool, "test", "rules", site.at("tests.json")], capture_output=True, text=True)
     check("what the queries come to", (ran.returncode, ran.stderr), (0, ""))
     check("how many", len(tests) >= 15, True)
+
+
+def alerts() -> str:
+    found = re.search(r"```yaml\n(.*?)```", text_of(LOG), re.S)
+    return found[1] if found else ""
+
+
+@case
+def alerts_name_figures() -> None:
+    rules = re.findall(r"- alert: (\w+)\n +expr: (.+)\n(?: +for: (\w+)\n)?", alerts())
+    check("how they fire", [(name, pause) for name, _, pause in rules], [("NumarunDoesNotLook", ""), ("NumarunSqueezed", "5m"), ("NumarunUndone", "10m")])
+    named = {figure for _, query, _ in rules for figure in re.findall(r"\bnumarun_(\w+)", query)}
+    check("figures", (sorted(named - set(FIGURES)), {FIGURES[name][0] for name in named}), ([], {"gauge"}))
+
+
+@case
+def alerts_fire() -> None:
+    """What Prometheus says of a machine on which nobody looks any more, one that is squeezed, one on which something is left undone, and one where
+    all that is undone is that somebody waits."""
+    promtool = os.environ.get("PROMTOOL") or shutil.which("promtool")
+    if not promtool:
+        print("the alerts: what Prometheus says is passed over, as there is no promtool (Debian: prometheus)")
+        return
+    rules = written(scratch("rules.yml"), alerts())
+    values = {"look": (0, 0, 0, 0), "squeezed": (60, 2, 2, 0), "undone": (60, 0, 3, 1), "waits": (60, 0, 2, 2), "well": (60, 0, 0, 0)}
+    figures = ("look_timestamp_seconds", "containers_squeezed", "undone", "containers_waiting")
+    series = [{"series": f'numarun_{figure}{{instance="{host}"}}', "values": f"0+{value}x30" if figure == figures[0] else f"{value}x30"}
+              for host, several in values.items() for figure, value in zip(figures, several)]
+    fires: Dict[Tuple[str, int], List[str]] = {("NumarunDoesNotLook", 20): ["look"], ("NumarunSqueezed", 4): [], ("NumarunSqueezed", 6): ["squeezed"], ("NumarunUndone", 9): [],
+                                               ("NumarunUndone", 11): ["squeezed", "undone"]}
+    texts = {name: text for name, text in re.findall(r"- alert: (\w+)\n(?:.*\n)*?.*summary: \"(.*)\"", alerts())}
+    tests = [{"eval_time": f"{minutes}m", "alertname": name, "exp_alerts": [{"exp_labels": {"instance": host}, "exp_annotations": {
+        "summary": texts[name].replace("{{ $labels.instance }}", host)}} for host in hosts]} for (name, minutes), hosts in fires.items()]
+    written(scratch("tests.json"), json.dumps({"rule_files": [rules], "tests": [{"interval": "1m", "input_series": series, "alert_rule_test": tests}]}))
+    ran = subprocess.run([promtool, "test", "rules", scratch("tests.json")], capture_output=True, text=True)
+    check("who fires", (ran.returncode, ran.stdout + ran.stderr if ran.returncode else ""), (0, ""))

@@ -13,7 +13,7 @@ from typing import Any, Dict, List, Mapping, Optional, Sequence, Tuple
 
 import mutants
 from trial import OPERATORS, case, check, scratch, text_of, written
-from numarun_host import configs, homes, log, memory, placing, pool, reports, sightings, slices
+from numarun_host import cgroups, configs, homes, log, memory, placing, pool, reports, sightings, slices
 from numarun_host.commands import Answer, Ask, Command, LeaveFigures, Level, RunPool, SaveTaken, Say, Start, Steps, T, Taken, Tell, Write
 from numarun_host.configs import Demand, Pin
 from numarun_host.cpus import Cpus, print_list, read_list
@@ -129,6 +129,8 @@ def who_asks() -> None:
         (config_of(quota="2", period=QUOTA), single, (None, None, None)), (config_of(quota=QUOTA, period=-5), single, (None, None, None)),
         (config_of(quota=QUOTA, period=True), single, (None, None, None)), (config_of(quota=QUOTA, period=0), single, (1, 1, None)),
         (config_of(env=["NUMARUN_PIN=true"], quota=2 * QUOTA, period=QUOTA), single, (2, 2, 2)),
+        (config_of(env=["NUMARUN_PIN=false"], quota=2 * QUOTA, period=QUOTA), single, (None, None, None)),
+        (config_of({"numarun.pin": "false"}, cpus="3-5"), single, (None, None, None)), (config_of({"numarun.pin": "no"}, quota=QUOTA), single, (1, 1, None)),
     )
     for config, machine, expected in table:
         check(f"who asks: {config}", tuple(configs.asked(config, rule, machine) for rule in (Pin.ALL, Pin.WHOLE, Pin.ANNOTATED)), expected)
@@ -243,6 +245,19 @@ def free_bytes() -> None:
         os.makedirs(scratch("nodes", f"node{node}"))
         written(scratch("nodes", f"node{node}", "meminfo"), text)
     check("free memory", memory.free_memory(scratch("nodes"), machine), {0: 5120, 2: None})
+    for line, kib in (("Active(file): 10 kB", 15), ("Inactive(file): 20 kB", 35), ("SReclaimable: 40 kB", 75), ("KReclaimable: 80 kB", 115), ("FilePages: 999 kB", 115),
+                      ("Active(anon): 999 kB", 115), ("Active: 999 kB", 115), ("Slab: 999 kB", 115)):
+        with open(scratch("nodes", "node0", "meminfo"), "a") as file:
+            file.write(f"Node 0 {line}\n")
+        check(f"and what the kernel can free: {line}", memory.free_of(scratch("nodes"), 0), kib * 1024)
+    written(scratch("nodes", "node0", "meminfo"), "Node 0 Active(file): 5 kB\n")
+    check("none told", memory.free_of(scratch("nodes"), 0), None)
+    check("beside its own", homes.beside({0: 5, 1: None, 2: 7}, {0: 3, 1: 4, 3: 9}), {0: 8, 1: None, 2: 7})
+    check("room", [homes.has_room({0: 5, 1: 7, 2: None}, nodes, 12) for nodes in ((0, 1), (0,), (1, 2))], [True, False, True])
+    os.makedirs(scratch("group"))
+    check("no file", cgroups.memory_by_node(scratch("group")), {})
+    written(scratch("group", "memory.numa_stat"), "anon N0=1 N1=2\nfile N0=4 N1=8\ninactive_anon N0=16 N1=32\nactive_anon N0=64 N1=128\nactive_file N0=256\nunevictable N1=512\n")
+    check("what a group has", cgroups.memory_by_node(scratch("group")), {0: 80, 1: 672})
 
 
 @case
@@ -272,6 +287,31 @@ def chosen_homes() -> None:
 
 
 @case
+def homes_by_memory() -> None:
+    """A home has room for the memory limit, beside what the container has there already; where it has none for want of memory that is said once."""
+    gib, ledger = 1 << 30, ledger_of(members=FOUR)
+    turn = Turn(ledger, Look(0.0, free_memory={node: gib for node in range(4)}))
+
+    def demand(limit: int, has: str = "", own: Mapping[int, int] = {}, **named: object) -> Tuple[str, bool]:
+        turn.spare = None
+        section: Dict[str, object] = {"quota": 2 * QUOTA, "period": QUOTA, **named}
+        config = {"linux": {"resources": {"cpu": section, "memory": {"limit": limit * gib}}}}
+        found = placing.demand_of(turn, dataclasses.replace(sighting(config=config, cpus=cpus(has)), memory=own))
+        return print_list(configs.nodes_named(found.config)), found.lacks_memory
+
+    check("by its limit", [demand(limit) for limit in (1, 2, 3, 4, 5)], [("0", False), ("0-1", False), ("0-2", False), ("-", True), ("-", True)])
+    check("beside its own", [demand(9, own={3: 8 * gib}), demand(9, own={3: 7 * gib}), demand(9, own={3: 4 * gib})], [("3", False), ("2-3", False), ("-", True)])
+    check("where its CPUs are", [demand(1, "12-13"), demand(2, "12-13"), demand(2, "12-13", {3: gib}), demand(0, "12-13")], [("3", False), ("-", True), ("3", False), ("3", False)])
+    check("nodes that it names", demand(9, mems="1"), ("1", False))
+    turn.look = Look(0.0, free_memory={0: gib, 1: gib, 2: gib, 3: None})
+    check("not known of one", demand(9), ("3", False))
+    config = {"linux": {"resources": {"memory": {"limit": 3 * gib // 2}}}}
+    ledger.put(container("a", State.ASKING, 2, demand=Demand(config, 2, lacks_memory=True)))
+    lines = [said(done(placing.say_home(ledger, "a"))[0]) for _ in range(2)]
+    check("said once", lines, [["note no home for a: no node where it could be has the 1.5 GiB of its memory limit"], []])
+
+
+@case
 def demands() -> None:
     """What is told of a container: its home with it; of one that is stopped, or not pinned by the rule, no CPUs."""
     turn = Turn(ledger_of(members=FOUR, pin=Pin.WHOLE), Look(0.0))
@@ -281,6 +321,8 @@ def demands() -> None:
     check("stopped", placing.demand_of(turn, dataclasses.replace(seen, stopped=True)), Demand(config_of(), None))
     half = config_of(quota=50000, period=QUOTA)
     check("not by the rule", placing.demand_of(turn, sighting(config=half)), Demand(config_of(), None))
+    check("left out", [placing.demand_of(turn, sighting(config={**asks(2, cpus="2-3"), **left})) for left in ({"annotations": {"numarun.pin": "false"}},)],
+          [Demand({**config_of(), "annotations": {"numarun.pin": "false"}}, None)])
     check("asks for none", placing.demand_of(turn, sighting(config=config_of(mems="1"))), Demand(config_of(mems="1"), None))
     check("refused by numarun", placing.demand_of(turn, sighting(config=config_of(cpus="x"))), Demand(config_of(cpus="x"), None))
     check("by its group", placing.demand_of(turn, dataclasses.replace(seen, limit=(4 * QUOTA, QUOTA), nodes=cpus("2"))), Demand(asks(4, mems="2"), 4))

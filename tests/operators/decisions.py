@@ -6,6 +6,7 @@ runs them several times faster.
 
 - No container with a process is given up, and nobody's processes are ended.
 - Who requests CPUs without a reserved one has them for itself, after each write.
+- Who comes before a run's first plan, while nobody requests the CPUs that it gives him, is never on the reserved CPUs alone.
 - Once all is well, who can be served is served within some looks, so that the pool keeps what is left to it, and then nothing more is said or
   written.
 - Once all have gone, nothing of them is left."""
@@ -89,6 +90,16 @@ def settled(agent: Agent) -> None:
         world.wrong.append("written where nothing happens")
 
 
+def begun_anew(agent: Agent) -> Agent:
+    """Another agent over what runs, behind a release: most groups request nothing."""
+    world = agent.world
+    for place in world.places.values():
+        place.cpus = place.cpus if place.inode % 4 == 0 else frozenset()
+    world.links.clear()
+    world.taken = {}
+    return Agent(world)
+
+
 def refused(agent: Agent) -> None:
     """Where no write is taken any more, nothing is said again and again: of a plan once, and once of a container."""
     world, said = agent.world, Counter[str]()
@@ -124,6 +135,8 @@ def fault_of(case: bytes) -> Optional[str]:
     world = World(MACHINE, Choices(case))
     world.pool_least = (0, 0, 2, 3)[world.choices.below(4)]
     agent = troubled(world)
+    settled(agent)
+    agent = begun_anew(agent)
     settled(agent)
     refused(agent)
     left(agent)

@@ -1,9 +1,10 @@
 """Tries numarun-dry-run: where a container would go, by hand; that another run comes to the same, and that nothing is written."""
 
+import json
 import os
 import shutil
 
-from trial import EXAMPLES, PROGRAM, TOP, bad_files, bad_output, case, check, piped, refuses, scratch, told, words_and_help
+from trial import EXAMPLES, PROGRAM, TOP, bad_files, bad_output, case, check, piped, refuses, scratch, told, words_and_help, written
 
 MACHINE = os.path.join(EXAMPLES, "machines", "two-socket.json")
 DATABASE, PACKETS, WEB, CONTROL = (f"examples/bundles/{name}" for name in ("database", "packet-processing", "web", "real-time"))
@@ -50,6 +51,10 @@ def rules():
     check("what is left to the pool", (status, " ".join(out.split()), err),
           (1, "new has no place: it would leave 2 CPUs to the pool, and that keeps 4 (see --pool-least)", ""))
     check("where nothing is left to it", dry("--cpus", "30", "--pool-least", "0")[0], 0)
+    os.mkdir(scratch("left"))
+    config = {"ociVersion": "1.0.2", "root": {"path": "r"}, "process": {"env": ["NUMARUN_PIN=false"]}, "linux": {"resources": {"cpu": {"quota": 200000, "period": 100000}}}}
+    written(scratch("left", "config.json"), json.dumps(config))
+    check("one that is left out", dry(scratch("left"))[1].splitlines()[0], "new asks for no CPUs of its own, and would run on the pool: 0-31")
 
 
 @case

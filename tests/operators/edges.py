@@ -5,6 +5,7 @@ import json
 import os
 import re
 import signal
+import socket
 import subprocess
 import time
 
@@ -14,9 +15,11 @@ from numarun_host.ledger import Ledger, Settings, Sighting
 from numarun_host.machine import Machine
 from numarun_host.names import Names
 from numarun_host.placing import choose_home
+from numarun_host.program import Run
+from numarun_host.script import Refused
 from numarun_host.seen import Group, Look, Told
 from numarun_host.telling import Turn
-from trial import case, check, command, long_case, refuses, told
+from trial import case, check, command, long_case, refuses, scratch, told, written
 
 
 BETWEEN = """
@@ -95,10 +98,10 @@ if line.startswith(b"create b"):
 @case
 def standing_still():
     """A program that answers nothing any more: SIGTERM is heard all the same, and without one the agent ends after its patience."""
-    for more, number, says in (((), signal.SIGTERM, "where it is to end"), (("--patience", "2"), None, "in 2 s")):
+    for more, number, line, says in (((), signal.SIGTERM, "create", "where it is to end"), (("--patience", "2"), None, "sets", "in 2 s")):
         site = Site()
         site.come("a", 2)
-        words = command("numarun-agent", *site.words(*site.stand_in(STANDING), *more))
+        words = command("numarun-agent", *site.words(*site.stand_in(STANDING.replace("create", line)), *more))
         run = subprocess.Popen(words, stdin=subprocess.DEVNULL, stdout=subprocess.PIPE, stderr=subprocess.PIPE, text=True)
         while "done" not in run.stdout.readline():
             pass
@@ -109,6 +112,34 @@ def standing_still():
             run.send_signal(number)
         out, err = run.communicate(timeout=60)
         check(f"it ends {says}", (run.returncode, says in err, time.monotonic() - began < 20), (1, True, True))
+
+
+SLOW = """#!/usr/bin/python3 -B
+import sys, time
+for line in sys.stdin:
+    time.sleep(0 if line == "phase\\n" else 3)
+    print("settled" if line == "phase\\n" else "ok", flush=True)
+"""
+
+
+@case
+def moves_pages():
+    """A program that is silent where the kernel moves pages is waited for, and systemd hears that the agent works; SIGTERM is heard all the same."""
+    slow = written(scratch("slow"), SLOW, 0o755)
+    door = socket.socket(socket.AF_UNIX, socket.SOCK_DGRAM)
+    door.bind(scratch("door"))
+    os.environ["NOTIFY_SOCKET"] = scratch("door")
+    run = Run(slow, "m", patience=2)
+    check("it is waited for", run.ask("adopt a /b"), ["ok"])
+    check("what systemd hears", door.recv(99), b"WATCHDOG=1\nEXTEND_TIMEOUT_USEC=60000000")
+    for asked, ends, says in (("step", None, "no answer to 'step' in 2 s"), ("create a /b", 1, "no answer to 'create a /b' where it is to end")):
+        began = time.monotonic()
+        run = Run(slow, "m", patience=2, until=lambda: began + ends if ends else None)
+        try:
+            check(asked, run.ask(asked), "refused")
+        except Refused as why:
+            check(asked, (says in str(why), time.monotonic() - began < 2.9), (True, True))
+        run.close()
 
 
 NO_PIDS = """
@@ -208,7 +239,7 @@ def long_ids():
         check(f"names that are none: {text}", found, {ids[0]: "999999999999"})
     site.come(ids[2], 2)
     status, lines = site.run()
-    check("in the log", (status, of(lines, "create", "hold")), (0, [f"create 777777777777 {site.at('g', ids[2])}", "hold 777777777777 1-2"]))
+    check("in the log", (status, of(lines, "create", "hold")), (0, [f"create 777777777777 {site.at('g', ids[2])} 1-2", "hold 777777777777 1-2"]))
 
 
 @long_case
@@ -347,4 +378,4 @@ def words():
     version = subprocess.run([IN_FOLDERS, "--version"], capture_output=True).stdout.decode()
     check("the version", told("numarun-agent", "--version", "--program", IN_FOLDERS), (0, version, ""))
     check("release without a tree", told("numarun-agent", "release")[0], 2)
-    check("release", told("numarun-agent", "release", "--cgroup", site.at("root"), "--work", site.at("work")), (0, "", ""))
+    check("release", told("numarun-agent", "release", "--cgroup", site.at("root"), "--work", site.at("work")), (0, f"nothing was kept in {site.at('work')}\n", ""))

@@ -3,7 +3,7 @@
 import os
 
 from sites import IN_FOLDERS, QUOTA, Open, Site
-from numarun_host import homes
+from numarun_host import homes, memory as memories
 from numarun_host.cpus import read_list
 from numarun_host.machine import Machine
 from trial import case, check, told
@@ -43,14 +43,14 @@ def chosen():
     ]:
         memory(site, *(GIB * gib for gib in free_gib))
         config = {"linux": {"resources": {"memory": {"limit": limit * GIB}}}}
-        found = homes.home_of(machine, config, count, free - read_list(taken, "taken"), homes.free_memory(site.at("nodes"), machine))
+        found = homes.home_of(machine, config, count, free - read_list(taken, "taken"), memories.free_memory(site.at("nodes"), machine))
         check(f"a home for {count} CPUs and {limit} GiB of {free_gib} without {taken!r}", found, expected)
     site = Site({"nodes": ["0-1", "2-3", "4-5", "6-7"], "distances": [[10 if a == b else 30 if {a, b} == {1, 2} else 20 for b in range(4)] for a in range(4)],
                  "reserved": "0"})
     spread = Machine(site.at("machine.json"))
     check("two large nodes rather than three near ones", homes.home_of(spread, {}, 4, spread.present - {0, 7}, {}), {1, 2})
     named = {"linux": {"resources": {"cpu": {"mems": "3"}}}}
-    check("one that names its nodes", homes.home_of(machine, named, 2, free, homes.free_memory(site.at("nodes"), machine)), None)
+    check("one that names its nodes", homes.home_of(machine, named, 2, free, memories.free_memory(site.at("nodes"), machine)), None)
 
 
 @case
@@ -80,6 +80,20 @@ def kept():
     site.come("c", linux={"resources": {"cpu": {"quota": 2 * QUOTA, "period": QUOTA}, "memory": {"limit": GIB // 2}}})
     check("memory", [line for line in agent.until("done") if line.startswith("home")], ["home c 0"])
     check("the end", agent.end()[0], 0)
+
+
+@case
+def where_it_is():
+    """What a container has on a node counts for its home there, and one that fits nowhere is named."""
+    site = Site(TWO)
+    site.online("0-7")
+    memory(site, GIB, GIB)
+    for name, gib in (("a", 4), ("b", 3)):
+        site.come(name, linux={"resources": {"cpu": {"quota": 2 * QUOTA, "period": QUOTA}, "memory": {"limit": gib * GIB}}})
+    site.put("numarun/a", "memory.numa_stat", f"anon N0=5 N1=5\ninactive_anon N0=0 N1={GIB}\nactive_anon N0=4096 N1={2 * GIB}\nfile N0={9 * GIB} N1=0")
+    status, lines = site.run("--nodes", site.at("nodes"))
+    named = "note no home for b: no node where it could be has the 3.0 GiB of its memory limit"
+    check("homes", (status, [line for line in lines if "home" in line], site.has("a")), (0, ["home a 1", named], ["4-5"]))
 
 
 @case

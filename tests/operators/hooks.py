@@ -47,7 +47,7 @@ def hooked():
     group = json.load(open(site.at("told/a/status")))["cgroup-path"] if os.path.exists(site.at("told/a/status")) else "/numarun/a"
     site.make_group("a", group=group.strip("/"))
     status, lines = site.run("--watch", site.at("told"))
-    check("it is told", (status, lines[0]), (0, f"create a {site.at('told/a')}"))
+    check("it is told", (status, lines[0]), (0, f"create a {site.at('told/a')} 1-2"))
     first = os.stat(site.at("told/a")).st_ino
     check("told again", told("numarun-hook", site.at("told"), text=json.dumps({**state, "status": "creating"})), (0, "", ""))
     check("as another one", os.stat(site.at("told/a")).st_ino != first, True)

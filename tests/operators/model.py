@@ -421,10 +421,15 @@ class Agent:
         self.ledger = Ledger(settings, frozenset({0}), taken=taken, renewed=renewed, before=before)
         self.program: Optional[Program] = None
         self.trial: Optional[Program] = None
+        self.offline: Cpus = frozenset()  # as the program was begun
         self.said: List[str] = []  # in the last look
+        self.set_back: Dict[str, Cpus] = {}  # in the last look, by who was told of on the reserved CPUs, what the others requested then
+        self.denied: Set[str] = set()        # in the last look, who was refused
+        self.is_short = self.is_disturbed = self.has_plan = False  # in the last look
 
     def look(self, troubled: bool) -> None:
-        self.said = []
+        self.said, self.set_back, self.denied, self.is_short, self.is_disturbed, self.has_plan = [], {}, set(), False, False, False
+        is_first = self.ledger.pool is None and not self.ledger.renewed
         steps = decide(self.ledger, self.world.look(self.ledger))
         try:
             command = next(steps)
@@ -434,21 +439,46 @@ class Agent:
                 command = steps.send(self.do(command))
         except StopIteration as end:
             self.ledger = end.value
+        if is_first and self.ledger.pool is not None and not self.is_short and not self.is_disturbed:
+            self.check_beginnings()
+
+    def check_beginnings(self) -> None:
+        """Behind the first plan of a run: who came, and has CPUs by it that nobody requested then, was never on the reserved CPUs alone."""
+        for name, others in self.set_back.items():
+            row = self.program.rows.get(name) if self.program else None
+            if row and row.cpus != RESERVED and not row.cpus & others - RESERVED:
+                self.world.wrong.append(f"{name} was on the reserved CPUs, though nobody had {shown(row.cpus)}")
+
+    def note_set_back(self, command: Tell, answer: str) -> None:
+        """Notes who is told of on the reserved CPUs, but for those that request CPUs which are others', or whose config is refused as it is."""
+        name = command.name
+        if answer.startswith("refused E"):
+            self.denied.add(name)
+            self.is_disturbed = self.is_disturbed or answer.startswith("refused E104")
+        elif command.verb is Verb.CREATE and name not in self.denied:
+            self.set_back[name] = self.requested_beside(name)
+
+    def requested_beside(self, name: str) -> Cpus:
+        """What others request that keeps a container off: of one that asks for no CPUs of its own, only what is another one's own."""
+        path, row = self.world.path(name), self.program.rows[name] if self.program else None
+        others = [place for other, place in self.world.places.items() if other != path]
+        return frozenset[int]().union(*(place.cpus for place in others if row and (row.count is not None or not place.shared)))
 
     def trouble(self) -> None:
         draw = self.world.choices.below(64)
         if draw == 1:
             raise Killed()
         if draw > 56:
+            self.is_disturbed = True
             self.world.happen()
 
     def do(self, command: Command) -> Answer:
         world = self.world
         if isinstance(command, Start):
-            self.program = Program(world, True, command.reserved, command.offline)
+            self.program, self.offline = Program(world, True, command.reserved, command.offline), command.offline
         elif isinstance(command, OpenTrial):
             assert self.program
-            self.trial = Program(world, False, self.program.reserved, frozenset())
+            self.trial = Program(world, False, self.program.reserved, self.offline)
         elif isinstance(command, CloseTrial):
             self.trial = None
         elif isinstance(command, (Ask, Tell)):
@@ -475,6 +505,11 @@ class Agent:
         else:
             self.world.copies.add(command.name)
             lines = (program.tell(command),)
+            if not command.trial:
+                self.note_set_back(command, lines[0])
+        gets_room = isinstance(command, Tell) and command.verb is Verb.UPDATE and not command.trial and not self.has_plan
+        self.is_short, self.has_plan = self.is_short or lines[0].startswith("short") and not command.trial, self.has_plan or lines[0].startswith("plan") and not command.trial
+        self.is_disturbed = self.is_disturbed or gets_room or lines[0] == NO_WRITE
         return Answer(lines, (f"{self.world.refused}: Read-only file system",) if lines[0] == NO_WRITE else ())
 
     def hear(self, command: Say) -> None:
@@ -482,6 +517,7 @@ class Agent:
             self.said.append(command.line)
         kind, _, name = command.line.partition(" ")
         container = self.ledger.containers.get(name)
+        self.is_disturbed = self.is_disturbed or kind == "ended"
         if kind == "ended" and container:
             place = self.world.places.get(container.seen.group.path)
             if place and place.populated and place.inode == container.seen.group.inode:

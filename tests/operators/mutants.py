@@ -39,7 +39,7 @@ import trial
 
 TOP = pathlib.Path(__file__).resolve().parents[2]
 PACKAGE = pathlib.Path("operators/numarun_host")
-DECIDE = ("changes", "configs", "decide", "homes", "ledger", "lifting", "newcomers", "partition", "partitioning", "placing", "plans", "pool", "reports",
+DECIDE = ("beginnings", "changes", "configs", "decide", "homes", "ledger", "lifting", "newcomers", "partition", "partitioning", "placing", "plans", "pool", "reports",
           "room", "sightings", "slices", "telling")
 CASES = ("decided", "parts", "decisions/long", "decisions/short")
 OF_PARTITIONS = tuple(f"partitions/{case}" for case in ("said", "resized", "order", "loose", "made", "given_back", "refused", "decided_by_chance"))

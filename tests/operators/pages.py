@@ -9,7 +9,6 @@ import re
 import shlex
 import subprocess
 import sys
-import time
 from typing import Dict, Iterator, List, Tuple
 
 import log_words
@@ -139,12 +138,14 @@ def two_sockets() -> Site:
 
 @case
 def ten_minutes() -> None:
-    """The log and the table of the first page, by a container that comes."""
+    """The log and the table of the first page, by a container that comes behind the first plan."""
     site = two_sockets()
     site.online("0-31")
+    site.come("other", 2)
     agent = Open(site, "--defaults")
-    while not os.path.exists(site.at("work/hooks")):
-        time.sleep(0.05)
+    agent.until("done")
+    site.go("other")
+    agent.until("done")
     site.come("db", 4)
     log = "".join(f"{line}\n" for line in agent.until("done")).replace(site.at("g"), "/run/crun")
     table = told("numarun-agent", "status", "--agent", site.at("work/hooks"))[1]

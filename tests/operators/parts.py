@@ -4,12 +4,12 @@ out by hand from the pages of operators/."""
 from __future__ import annotations
 
 import dataclasses
-from typing import Any, Dict, List, Mapping, Optional, Sequence, Tuple
+from typing import Any, Callable, Dict, List, Mapping, Optional, Sequence, Tuple
 
 from decided import EIGHT, FOUR, asks, config_of, container, cpus, done, ledger_of, looked, said, sighting
 from trial import case, check
 from numarun_host import changes, configs, newcomers, plans, room
-from numarun_host.commands import Answer, Ask, Command, Drop, Link, SaveTaken, Taken, Tell, Unlink, Verb, Write
+from numarun_host.commands import Answer, Ask, Command, Drop, Link, SaveTaken, Steps, T, Taken, Tell, Unlink, Verb, Write
 from numarun_host.configs import Demand
 from numarun_host.cpus import print_list
 from numarun_host.ledger import Kind, Ledger, Pause, Problem, State, Topic
@@ -181,6 +181,103 @@ def held_up() -> None:
         check(f"a group of nobody on {has!r}", ([line for line in said(commands) if line.startswith("unseen")], ledger.due), (says, expected))
     ledger.taken, ledger.due = {"/t/x": Taken(7, "", "", True)}, True
     check("one of the system", looked(ledger, groups={"/t/x": Group("/t/x", 7, cpus("4"), populated=True)})[1].due, False)
+
+
+def answered(steps: Steps[T], answer: Callable[[str], Sequence[str]]) -> Tuple[List[Command], T]:
+    """What is yielded, and what it ends with; each line for numarun is answered so."""
+    commands: List[Command] = []
+    try:
+        command = next(steps)
+        while True:
+            commands.append(command)
+            command = steps.send(Answer(tuple(answer(command.line) if isinstance(command, Ask) else ["ok"])))
+    except StopIteration as end:
+        found_at_last: T = end.value
+        return commands, found_at_last
+
+
+def trial_of(commands: Sequence[Command], trial: bool) -> List[str]:
+    return told_of([command for command in commands if isinstance(command, Tell) and command.trial == trial])
+
+
+PLAN = {"rebalance": ["plan total 30", "hold a 1-2", "hold b 5", "pool 0,3-4,6-7", "end"], "begin direct": ["plan total 30", "hold a 1-2", "hold b 5", "pool 0,3-4,6-7", "end"],
+        "sets a": ["cpus 1-2 effective 1-2 mems 0 effective 0"], "sets b": ["cpus 5 effective 5 mems 0 effective 0"]}
+
+
+@case
+def begins_by_plan() -> None:
+    """Who requests no CPUs begins on those of a plan that a trial makes, and the plan behind it is the same; the log says so."""
+    told = {"a": found("a", asks(2)), "b": found("b", asks(1), "5"), "s": found("s", config_of()), "x y": found("x y", asks(1)), "z": found("z", asks(1), path="/t/a")}
+    commands, ledger = looked(ledger_of(), PLAN, told=told, groups=groups_of(*told.values()))
+    check("the trial", trial_of(commands, True), ["create a -", "adopt b 5"])
+    check("told", trial_of(commands, False), ["adopt a 1-2", "adopt b 5", "adopt s 0,3-4,6-7"])
+    check("said", [line for line in said(commands) if not line.startswith("refused")],
+          ["create a /g/a 1-2", "adopt b /g/b 5", "create s /g/s 0,3-4,6-7", "plan total 30", "hold a 1-2", "pool 0,3-4,6-7", "done"])
+    check("moved", (ledger.counts["moves_total"], ledger.containers["a"].state), (2, State.PINNED))
+    more = {**as_given(told, ledger), "n": found("n", asks(1))}
+    commands, ledger = looked(ledger, PLAN, told=more, groups=groups_of(*more.values()))
+    check("who comes behind the first plan", (trial_of(commands, True), trial_of(commands, False)), ([], ["create n -"]))
+    commands, _ = looked(ledger_of(root=None), told={"a": told["a"]})
+    check("where nothing is written", (trial_of(commands, True), trial_of(commands, False)), ([], ["create a -"]))
+
+
+@case
+def begins_as_it_can() -> None:
+    """Where a trial has no plan, somebody else requests CPUs of it, or a write fails, one begins on the reserved CPUs; where no plan is made there is no trial."""
+    def told(answers: Mapping[str, Sequence[str]] = {}, *more: Found) -> Tuple[List[str], List[str]]:
+        come = {each.told.bundle[3:]: each for each in (found("a", asks(2)), *more)}
+        commands, _ = looked(ledger_of(), {**PLAN, "begin direct": ["plan total 0", "pool 0-7", "end"], **answers}, told=come, groups=groups_of(*come.values()))
+        return trial_of(commands, True), trial_of(commands, False)
+
+    check("short", told({"rebalance": ["short demand 9 allowed 1-7", "member p", "end"]}), (["create a -"], ["create a -"]))
+    check("refused in the trial", told({"rebalance": ["plan total 0", "pool 0-7", "end"]}), (["create a -"], ["create a -"]))
+    check("another one's", told({}, found("s", config_of(), "2-3")), (["create a -"], ["create a -", "adopt s 2-3"]))
+    check("a write that fails", told({"adopt": ["refused E50 KernelFault"]}), (["create a -"], ["adopt a 1-2", "create a -"]))
+    check("its own are not free", told({"rebalance": ["plan total 30", "hold a 1-2", "hold b 5", "hold c 3", "pool 0,4,6-7", "end"], "adopt": ["refused E104 NotFree 5"]},
+                                       found("b", asks(1), "5"), found("c", asks(1), "5"))[1], ["adopt a 1-2", "create a -", "adopt b 5", "create b -", "adopt c 5", "adopt c 3", "create c -"])
+    stray = ledger_of()
+    stray.taken = {"/t/u": Taken(7, "", "", False)}
+    unseen = {"/t/u": Group("/t/u", 7, cpus("4"), populated=True), "/t/a": found("a", asks(2)).group}
+    check("a plan that is not made", trial_of(looked(stray, PLAN, told={"a": found("a", asks(2))}, groups=unseen)[0], True), [])
+
+
+@case
+def begins_to_wait() -> None:
+    """The youngest newcomers that would bring the pool below what is left to it begin on the pool, and wait there."""
+    come = {name: found(name, asks(2), age=age) for age, name in enumerate("abc")}
+    plan = ["plan total 40", "hold a 1-2", "hold b 3-4", "pool 0,5-7", "end"]
+    answers = {"rebalance": plan, "begin direct": plan, "sets a": ["cpus 1-2 effective - mems - effective -"], "sets b": ["cpus 3-4 effective - mems - effective -"]}
+    commands, ledger = looked(ledger_of(pool_least=3), answers, told=come, groups=groups_of(*come.values()))
+    check("the trials", trial_of(commands, True)[:2], ["create a -", "create b -"])
+    check("told", trial_of(commands, False), ["adopt a 1-2", "adopt b 3-4", "adopt c 0,5-7"])
+    check("it waits", (ledger.containers["c"].state, ledger.containers["c"].demand.count, [line for line in said(commands) if "waits" in line]),
+          (State.WAITING, 2, ["waits c: it would leave 2 CPUs to the pool, and that keeps 3: it runs on the pool until there is room"]))
+
+
+@case
+def begins_short() -> None:
+    """Who is short in the trial, the youngest first, is on the pool of a plan without it; who has its CPUs already is left in it."""
+    come = {name: found(name, asks(2), has, age=age) for age, (name, has) in enumerate((("a", ""), ("b", ""), ("c", "5-6")))}
+    told = [(name, sighting(f"/t/{name}", each.config, cpus=each.group.cpus)) for name, each in come.items()]
+    turn = Turn(ledger_of(), Look(10.0))
+    turn.there = dict(told)
+    trials = iter([["short demand 9 allowed 1-7", "member c", "member b", "member a", "end"], ["plan total 40", "hold a 1-2", "hold c 5-6", "pool 0,3-4,7", "end"]])
+    commands, planned = answered(newcomers.plan_ways(turn, turn.there), lambda line: next(trials) if line == "rebalance" else ["ok"])
+    check("asked", [each.line for each in commands if isinstance(each, Ask)], ["rebalance", "kill b KILL", "delete b", "rebalance"])
+    ways = {name: one.way for name, one in planned.items() if one.way}
+    check("how they begin", {name: (way.given.count, way.waits, print_list(way.cpus)) for name, way in ways.items()},
+          {"a": (2, False, "1-2"), "b": (None, True, "0,3-4,7"), "c": (2, False, "5-6")})
+
+
+@case
+def begins_at_home() -> None:
+    """Homes are chosen one after another, as they are told; what one has already is no room for another."""
+    come = {name: found(name, asks(2), age=age) for age, name in enumerate("ab")}
+    plan = ["plan total 40", "hold a 2-3", "hold b 4-5", "pool 0-1,6-15", "end"]
+    commands, ledger = looked(ledger_of(members=FOUR), {"rebalance": plan, "begin direct": plan}, told=come, groups=groups_of(*come.values()))
+    check("homes", [line for line in said(commands) if line.startswith(("create", "home"))], ["create a /g/a 2-3", "home a 0", "create b /g/b 4-5", "home b 1"])
+    configs_told = [configs.at(command.config, "linux", "resources", "cpu", "mems") for command in commands if isinstance(command, Tell)]
+    check("the same in the trial", configs_told, ["0", "1", "0", "1"])
 
 
 # What changes.

@@ -1,0 +1,82 @@
+"""On which CPUs those begin that come and request none: on those that a plan gives them, which a trial works out before they are told of. So nobody
+is on the reserved CPUs who need not be, while the kernel moves his pages."""
+
+from __future__ import annotations
+
+from dataclasses import dataclass
+from typing import Dict, List, Sequence, Set, Tuple
+
+from .commands import CloseTrial, Steps
+from .configs import Demand
+from .cpus import NO_CPUS, Cpus
+from .ledger import Ledger
+from .room import Outcome, Trial, left_to_the_pool
+from .telling import Turn
+
+
+@dataclass(frozen=True)
+class Comer:
+    """One that comes: what it is given at first, the CPUs that its group requests, and whether it may begin on these."""
+
+    name: str
+    given: Demand
+    cpus: Cpus
+    keeps: bool
+
+
+@dataclass(frozen=True)
+class Beginning:
+    """The CPUs on which one begins; one that waits is on the pool there."""
+
+    cpus: Cpus
+    waits: bool
+
+
+def beginnings(turn: Turn, comers: Sequence[Comer]) -> Steps[Dict[str, Beginning]]:
+    """Where each of them begins by a plan. Nobody is named where there is none, nor who is refused, or gets no others than the reserved CPUs."""
+    ledger, waiting = turn.ledger, those_who_wait(turn.ledger, comers)
+    asking = [comer for comer in comers if comer.given.count is not None and comer.name not in waiting]
+    outcome, short = yield from plan_of(turn, asking)
+    if not outcome.is_plan:
+        return {}
+    asking, waiting = [comer for comer in asking if comer not in short], waiting | {comer.name for comer in short}
+    own = [container.cpus or NO_CPUS for container in ledger.containers.values() if container.state.is_pinned]
+    own += [comer.cpus for comer in comers if comer.given.count is not None or not comer.cpus & ledger.reserved]
+    pool = outcome.pool - (NO_CPUS.union(*own) - ledger.reserved)
+    cpus = {comer.name: pool for comer in comers if comer not in asking}
+    cpus.update((comer.name, outcome.holds[comer.name]) for comer in asking if comer.name in outcome.holds)
+    return {name: Beginning(has, name in waiting) for name, has in cpus.items() if not has <= ledger.reserved}
+
+
+def plan_of(turn: Turn, asking: Sequence[Comer]) -> Steps[Tuple[Outcome, List[Comer]]]:
+    """The plan of a trial with those who ask for CPUs of their own, but for the youngest of those who are short together."""
+    trial = Trial(turn)
+    yield from trial.open()
+    for comer in asking:
+        yield from trial.begin(comer.name, comer.given, comer.cpus if comer.keeps else NO_CPUS)
+    outcome, short = (yield from trial.plan()), []
+    while outcome.shortage:
+        members = [comer for comer in asking if comer.name in outcome.shortage.members and not comer.keeps and comer not in short]
+        if not members:
+            break
+        short.append(members[-1])
+        yield from trial.end(members[-1].name)
+        outcome = yield from trial.plan()
+    yield CloseTrial()
+    return outcome, short
+
+
+def those_who_wait(ledger: Ledger, comers: Sequence[Comer]) -> Set[str]:
+    """The youngest of those that have no CPUs yet, as many as would bring the pool below what is left to it. One that asks for more CPUs than there
+    are is refused, and does not wait."""
+    left = left_to_the_pool(ledger) - sum(comer.given.count or 0 for comer in comers if comer.keeps)
+    waiting: Set[str] = set()
+    for comer in comers if ledger.settings.pool_least else []:
+        count = comer.given.count
+        if comer.keeps or count is None or count > len(ledger.settings.machine.present):
+            continue
+        if count > left:
+            waiting.add(comer.name)
+        else:
+            left -= count
+    return waiting
