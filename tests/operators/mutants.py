@@ -69,7 +69,8 @@ class Mutant:
         return f"{self.module}:{self.line}:{self.what}"
 
     def tree(self) -> ast.Module:
-        tree: ast.Module = Replaced(self.place, self.way).visit(ast.parse(text_of(self.module)))
+        tree = Replaced(self.place, self.way).visit(ast.parse(text_of(self.module)))
+        assert isinstance(tree, ast.Module)
         return ast.fix_missing_locations(tree)
 
 
