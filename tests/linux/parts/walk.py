@@ -128,7 +128,7 @@ def on_a_real_kernel():
     run.stdin.close()
     assert run.wait() == 0, read("/tmp/notes")
     undone = "rmdir /sys/fs/cgroup/numarun"
-    assert f"`{undone}`" in PAGES["README.md"]
+    assert f"`{undone}`" in read(f"{TOP}/docs/formats.md")
     typed(undone)
     tree.clear()
 
