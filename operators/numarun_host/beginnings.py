@@ -4,13 +4,13 @@ is on the reserved CPUs who need not be, while the kernel moves his pages."""
 from __future__ import annotations
 
 from dataclasses import dataclass
-from typing import Dict, List, Sequence, Set, Tuple
+from typing import Dict, Optional, Sequence, Tuple
 
 from .commands import CloseTrial, Steps
 from .configs import Demand
 from .cpus import NO_CPUS, Cpus
 from .ledger import Ledger
-from .room import Outcome, Trial, left_to_the_pool
+from .room import Outcome, Trial, left_to_the_pool, pool_text
 from .telling import Turn
 
 
@@ -26,10 +26,10 @@ class Comer:
 
 @dataclass(frozen=True)
 class Beginning:
-    """The CPUs on which one begins; one that waits is on the pool there."""
+    """The CPUs on which one begins, and why it waits there, on the pool, if it does."""
 
     cpus: Cpus
-    waits: bool
+    waits: Optional[str]
 
 
 def beginnings(turn: Turn, comers: Sequence[Comer]) -> Steps[Dict[str, Beginning]]:
@@ -39,44 +39,45 @@ def beginnings(turn: Turn, comers: Sequence[Comer]) -> Steps[Dict[str, Beginning
     outcome, short = yield from plan_of(turn, asking)
     if not outcome.is_plan:
         return {}
-    asking, waiting = [comer for comer in asking if comer not in short], waiting | {comer.name for comer in short}
+    asking, waiting = [comer for comer in asking if comer.name not in short], {**waiting, **short}
     own = [container.cpus or NO_CPUS for container in ledger.containers.values() if container.state.is_pinned]
     own += [comer.cpus for comer in comers if comer.given.count is not None or not comer.cpus & ledger.reserved]
     pool = outcome.pool - (NO_CPUS.union(*own) - ledger.reserved)
     cpus = {comer.name: pool for comer in comers if comer not in asking}
     cpus.update((comer.name, outcome.holds[comer.name]) for comer in asking if comer.name in outcome.holds)
-    return {name: Beginning(has, name in waiting) for name, has in cpus.items() if not has <= ledger.reserved}
+    return {name: Beginning(has, waiting.get(name)) for name, has in cpus.items() if not has <= ledger.reserved}
 
 
-def plan_of(turn: Turn, asking: Sequence[Comer]) -> Steps[Tuple[Outcome, List[Comer]]]:
-    """The plan of a trial with those who ask for CPUs of their own, but for the youngest of those who are short together."""
+def plan_of(turn: Turn, asking: Sequence[Comer]) -> Steps[Tuple[Outcome, Dict[str, str]]]:
+    """The plan of a trial with those who ask for CPUs of their own, but for the youngest of those who are short together, and why these wait."""
     trial = Trial(turn)
     yield from trial.open()
     for comer in asking:
         yield from trial.begin(comer.name, comer.given, comer.cpus if comer.keeps else NO_CPUS)
-    outcome, short = (yield from trial.plan()), []
+    outcome = yield from trial.plan()
+    short: Dict[str, str] = {}
     while outcome.shortage:
-        members = [comer for comer in asking if comer.name in outcome.shortage.members and not comer.keeps and comer not in short]
+        members = [comer for comer in asking if comer.name in outcome.shortage.members and not comer.keeps and comer.name not in short]
         if not members:
             break
-        short.append(members[-1])
+        short[members[-1].name] = outcome.shortage.text
         yield from trial.end(members[-1].name)
         outcome = yield from trial.plan()
     yield CloseTrial()
     return outcome, short
 
 
-def those_who_wait(ledger: Ledger, comers: Sequence[Comer]) -> Set[str]:
-    """The youngest of those that have no CPUs yet, as many as would bring the pool below what is left to it. One that asks for more CPUs than there
-    are is refused, and does not wait."""
-    left = left_to_the_pool(ledger) - sum(comer.given.count or 0 for comer in comers if comer.keeps)
-    waiting: Set[str] = set()
+def those_who_wait(ledger: Ledger, comers: Sequence[Comer]) -> Dict[str, str]:
+    """The youngest of those that have no CPUs yet, as many as would bring the pool below what is left to it, and why they wait. One that asks for
+    more CPUs than there are is refused, and does not wait."""
+    given = sum(comer.given.count or 0 for comer in comers if comer.keeps)
+    waiting: Dict[str, str] = {}
     for comer in comers if ledger.settings.pool_least else []:
         count = comer.given.count
         if comer.keeps or count is None or count > len(ledger.settings.machine.present):
             continue
-        if count > left:
-            waiting.add(comer.name)
+        if given + count > left_to_the_pool(ledger):
+            waiting[comer.name] = pool_text(ledger, given + count)
         else:
-            left -= count
+            given += count
     return waiting

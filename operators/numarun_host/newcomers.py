@@ -14,6 +14,7 @@ from .configs import Demand, bare, fewer, shared, stays, staying
 from .cpus import NO_CPUS, Cpus, print_list
 from .ledger import Container, Kind, Ledger, Sighting, State, Topic, report
 from .placing import demand_of, free_cpus, promise, say_home
+from .room import say_waits
 from .sightings import nodes_of
 from .telling import CONFIG_FAULTS, NOT_FREE, Reply, Turn, ask, report_failure, requested
 
@@ -29,6 +30,7 @@ class Way:
     waits: bool
     cpus: Cpus
     is_new: bool = False
+    why: str = ""  # it waits
 
 
 @dataclass(frozen=True)
@@ -79,7 +81,8 @@ def plan_ways(turn: Turn, come: Mapping[str, Sighting]) -> Steps[Dict[str, Plann
     found, turn.spare = (yield from beginnings(turn, comers)), None
     for name, begins in found.items():
         demand = planned[name].demand
-        way = Way(shared(demand.config) if begins.waits else demand, begins.waits, begins.cpus, is_new=True)
+        given = demand if begins.waits is None else shared(demand.config)
+        way = Way(given, begins.waits is not None, begins.cpus, is_new=True, why=begins.waits or "")
         if way.given.count is None or is_alone(turn, come[name], way.cpus):
             planned[name] = Planned(demand, way)
     return planned if found else {}
@@ -211,6 +214,8 @@ def hold(turn: Turn, name: str, sighting: Sighting, demand: Demand, way: Way, cp
     ledger.forget(name, Topic.CONTAINER, Topic.DRIFT, Topic.SQUEEZED)
     if not way.waits:
         yield from say_home(ledger, name)
+    elif way.why:
+        yield from say_waits(turn, name, way.why)
     promise(turn, given, has or NO_CPUS)
     if refused:
         where = "it stays as it was" if given.count else "it runs on the pool"
