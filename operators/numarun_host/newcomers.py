@@ -138,7 +138,8 @@ def take_up(turn: Turn, name: str, sighting: Sighting, planned: Optional[Planned
             break
         fault = reply if reply.fault in CONFIG_FAULTS else fault
     if reply.fault is not None:
-        return (yield from refuse(turn, name, sighting, reply, cpus | planned.way.cpus if planned.way else cpus))
+        turn.unsure = turn.unsure or planned.way is not None
+        return (yield from refuse(turn, name, sighting, reply, cpus))
     yield from hold(turn, name, sighting, demand, way, cpus, fault)
     return True
 
@@ -272,18 +273,24 @@ def still_blocking(turn: Turn) -> Dict[str, Sighting]:
     return {name: seen for name, seen in turn.ledger.blocking.items() if name in turn.there or turn.runs(seen.group.path, seen.group.inode)}
 
 
+def untold(turn: Turn) -> Dict[str, Sighting]:
+    """Those of whom numarun could not be told at this look or before, and whose groups request CPUs, as by a write that was the last to be done."""
+    containers, reserved = turn.ledger.containers, turn.ledger.reserved
+    return {name: seen for name, seen in turn.there.items() if name not in containers and seen.group.cpus - reserved and not is_refused(turn, name, seen)}
+
+
 def is_held_up(turn: Turn) -> Steps[bool]:
     """Whether somebody runs on CPUs of which numarun does not know, as who can't be told of at the moment, so that a plan might give these to
     others; says who."""
     ledger = turn.ledger
-    ledger.blocking = still_blocking(turn)
+    ledger.blocking = {**untold(turn), **still_blocking(turn)}
     unseen = unseen_paths(turn)
     for topic, of in [key for key in ledger.problems if key[0] is Topic.UNSEEN and key[1] not in unseen]:
         ledger.settle(topic, of)
     for path in unseen:
         text = f"{path}: it was told of before, and there is a process in it: no plan until it is told"
         yield from report(ledger, Topic.UNSEEN, path, Kind.UNSEEN, text)
-    return bool(ledger.blocking or unseen or turn.strays)
+    return bool(ledger.blocking or unseen or turn.strays or turn.unsure)
 
 
 def has_some(turn: Turn, path: str) -> bool:

@@ -30,6 +30,7 @@ class Turn:
     spare: Optional[Cpus] = None          # the CPUs that are promised to nobody
     unsaved: bool = False                 # whether what was taken has changed
     late: bool = False                    # whether another group came in the place of one that ended, and may have its CPUs
+    unsure: bool = False                  # whether one may have got CPUs by a line that was refused, which the next look tells
     strays: Dict[str, Cpus] = field(default_factory=dict)  # by its id what a container requests that was written by others, until that is mended
 
     @property

@@ -265,7 +265,7 @@ def unseen_without_an_id():
 
 
 HIDES = """
-hides = line.startswith(b"adopt a ") and not os.path.exists(f"{away}.once")
+hides = line.startswith(b"adopt a ") and b"/told/" in line and not os.path.exists(f"{away}.once")
 if hides:
     open(f"{away}.once", "w").close()
     os.rename(folder, away)
