@@ -59,7 +59,7 @@ def all_of_them() -> None:
     check("given back", (status, cpus(site, "docker", "init.scope", "system.slice", "odd name@x", "numarun/free")), (0, [""] * 5))
     site.put("init.scope", "cpuset.cpus", "5")
     status, out, _ = told("numarun-agent", "release", "--cgroup", site.at("root"), "--work", site.at("work"), "--rest", "/")
-    check("and nothing more", (status, out, cpus(site, "init.scope")), (0, "", ["5"]))
+    check("and nothing more", (status, out, cpus(site, "init.scope")), (0, f"nothing was kept in {site.at('work')}\n", ["5"]))
 
 
 @case

@@ -153,7 +153,7 @@ def released():
     status, out, err = told("numarun-agent", *words)
     check("given back", (status, out.count("given back"), err), (0, 3, ""))
     check("as it was", (site.file("system.slice"), site.has("a", "b"), site.file("system.slice", "cpuset.mems")), ("", ["", "4-7"], ""))
-    check("nothing is left to give back", told("numarun-agent", *words), (0, "", ""))
+    check("nothing is left to give back", told("numarun-agent", *words), (0, f"nothing was kept in {site.at('work')}\n", ""))
     site.make_group(None, "0,3", group="user.slice")
     status, out, _ = told("numarun-agent", *words, "--rest", "user.slice")
     check("one that is named", (status, site.file("user.slice")), (0, ""))
@@ -164,4 +164,4 @@ def released():
     for text in ("{", "[]", '{"groups": 5}', '{"all": 5, "groups": {"/": [1]}}', '{"groups": {"/x": 5}}'):
         with open(site.at("work/taken.json"), "w") as file:
             file.write(text)
-        check(f"a record that is none: {text}", (told("numarun-agent", *words), site.run(*REST)[0]), ((0, "", ""), 0))
+        check(f"a record that is none: {text}", (told("numarun-agent", *words), site.run(*REST)[0]), ((0, f"nothing was kept in {site.at('work')}\n", ""), 0))
