@@ -174,7 +174,7 @@ def has_own(pid, many):
 def by_readme():
     """README's lines for an agent, with a container of crun's, and what undoes them."""
     pid, _ = process_of_crun("first", {"quota": 200000, "period": 100000, "mems": "1"})
-    assert "hold first 2-3" in typed(command("numarun-agent /etc/numarun/machine.json --runtime")) and tree.allowed(pid) == tree.CPUS, read(OUT)
+    assert "hold first 2-3" in typed(command("numarun-agent /etc/numarun/machine.json --runtime all --rounds")) and tree.allowed(pid) == tree.CPUS, read(OUT)
     assert "hold first 2-3" in typed(command("operators/numarun-agent host.json --runtime")) and tree.allowed(pid) == tree.CPUS, read(OUT)
     line = command("operators/numarun-agent host.json --cgroup")
     done.add(line)
@@ -221,6 +221,7 @@ def by_the_unit():
     until(agent, lambda: read("/proc/irq/default_smp_affinity").endswith(mask(tree.allowed(web))), "the pool's script")
     assert read("/sys/devices/virtual/workqueue/cpumask").endswith(mask(tree.allowed(web)))
     assert "numarun_containers_pinned 2" in read("/tmp/numarun.prom")
+    assert "cpuset.cpus:" in typed(command("cd /sys/fs/cgroup && find")), read(OUT)
     table = [row.split()[:2] for row in typed(command("numarun-agent status")).splitlines()]
     assert ["db", "pinned"] in table and "pool" in table[0], table
     kept = sorted(os.listdir("/var/log/numarun"))[-1]
@@ -230,7 +231,7 @@ def by_the_unit():
     assert "makes room by itself" in typed("numarun-dry-run /etc/numarun/machine.json --cpus 6 --running /run/crun", status=1), read(OUT)
     assert "another agent or program has it" in typed(of_the_unit(""), status=1)
     ended(agent)
-    typed(command("numarun-agent release"))
+    typed(command("numarun-agent release --cgroup /sys/fs/cgroup"))
     assert all(tree.allowed(pid) == tree.CPUS for pid in (db, eager, web)), read(OUT)
     crun("delete", "--force", "db")
     of_podman.podman("rm", "-f", "-t", "0", "eager", "web")
@@ -246,11 +247,14 @@ def a_service():
     service, other = (watched.group(f"system.slice/{name}.service") for name in ("mariadb", "ssh"))
     for beginning in ("numarun-agent add-service", "mkdir -p /etc/numarun/services", "echo '{\"cgroup-path\"", "echo '{\"ociVersion\""):
         typed(command(beginning))
+    assert "hugepages" in typed(command("grep . /sys/devices/system/node")), read(OUT)
+    assert "hold mariadb" in typed(command("numarun-agent /etc/numarun/machine.json --runtime all --watch")), read(OUT)
     agent = begun(of_the_unit(""))
     until(agent, lambda: has_own(service, 4) and not tree.allowed(other) & tree.allowed(service), "a service")
     ended(agent)
-    typed(command("numarun-agent release"))
+    typed(command("numarun-agent release --cgroup /sys/fs/cgroup"))
     assert tree.allowed(service) == tree.allowed(other) == tree.CPUS, read(OUT)
+    assert "nothing was kept in /run/numarun" in typed(command("numarun-agent release --cgroup /sys/fs/cgroup --rest")), read(OUT)
     tree.remove(f"{ROOT}/system.slice")
 
 
