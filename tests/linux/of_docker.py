@@ -12,7 +12,8 @@ from tree import ROOT, read
 SECONDS = 600  # that each command has; an emulated machine may have little of a processor
 IMAGE, OUT, LOG = "box", "/tmp/docker-out", "/tmp/dockerd-log"
 DAEMON = ["/app/dockerd", "--bridge", "none", "--iptables=false", "--storage-driver", "vfs", "--exec-opt", "native.cgroupdriver=cgroupfs",
-          "--containerd", "/run/containerd/containerd.sock"]
+          "--containerd", "/run/containerd/containerd.sock",
+          "--shutdown-timeout", str(SECONDS)]  # in place of 15: a daemon that runs out of them leaves containers behind
 HERE = {"PATH": "/bin:/usr/bin:/app", "HOME": "/root", "DOCKER_RAMDISK": "1"}  # a first file system in memory lets nobody pivot
 
 

@@ -450,11 +450,13 @@ class Agent:
                 self.world.wrong.append(f"{name} was on the reserved CPUs, though nobody had {shown(row.cpus)}")
 
     def note_set_back(self, command: Tell, answer: str) -> None:
-        """Notes who is told of on the reserved CPUs, but for those that request CPUs which are others', or whose config is refused as it is."""
+        """Notes who is told of on the reserved CPUs, but for those that request CPUs which are others', or whose config is refused as it is. If
+        one of the latter has CPUs, the plan that is tried does not know of these."""
         name = command.name
         if answer.startswith("refused E"):
             self.denied.add(name)
-            self.is_disturbed = self.is_disturbed or answer.startswith("refused E104")
+            place = self.world.places.get(self.world.path(name))
+            self.is_disturbed = self.is_disturbed or answer.startswith("refused E104") or bool(place and place.cpus - RESERVED)
         elif command.verb is Verb.CREATE and name not in self.denied:
             self.set_back[name] = self.requested_beside(name)
 
