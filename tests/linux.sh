@@ -30,7 +30,7 @@ inside=crun desk='' packages='' daemons='' libraries='' megabytes=320
 ! has podman walk || inside+=" podman conmon catatonit"
 ! has runc containerd docker || inside+=" runc"
 ! has docker || inside+=" dash"
-! has walk || desk=--desk
+! has walk cores || desk=--desk
 if has containerd docker; then
     packages=containerd daemons="usr/bin/containerd usr/bin/ctr usr/bin/containerd-shim-runc-v2" megabytes=512
 fi
@@ -83,8 +83,10 @@ for part in "${parts[@]}"; do
     fi
 done
 (cd "$root" && find . | cpio -o -H newc --quiet | gzip -1) >"$work/initrd.gz"
-nodes=() each=$((cpus / 4)) threads=1
-! has cores || threads=2
+nodes=() each=$((cpus / 4)) threads=1 processor=max
+if has cores; then
+    threads=2 processor=max,vendor=GenuineIntel # an AMD one tells of its threads by a feature that is not emulated
+fi
 for node in 0 1 2 3; do
     range=$((each * node))-$((each * (node + 1) - 1))
     nodes+=(-object "memory-backend-ram,id=m$node,size=${megabytes}M" -numa "node,nodeid=$node,memdev=m$node,cpus=$range")
@@ -102,7 +104,7 @@ emulate() {
     mkdir "$work/$number"
     echo "$seed $*" >"$work/$number/parts"
     { cat "$work/initrd.gz"; cd "$work/$number" && echo parts | cpio -o -H newc --quiet | gzip -1; } >"$work/initrd-$number.gz"
-    timeout "${LIMIT:-900}" qemu-system-x86_64 -M q35 -cpu max -accel tcg,thread=multi -m $((4 * megabytes)) -smp "$cpus,sockets=4,cores=$((each / threads)),threads=$threads" \
+    timeout "${LIMIT:-900}" qemu-system-x86_64 -M q35 -cpu $processor -accel tcg,thread=multi -m $((4 * megabytes)) -smp "$cpus,sockets=4,cores=$((each / threads)),threads=$threads" \
         "${nodes[@]}" -nodefaults -display none -serial stdio -no-reboot -kernel "$kernel" -initrd "$work/initrd-$number.gz" \
         -append "console=ttyS0 quiet panic=-1 loglevel=1 mitigations=off no_timer_check rdinit=/init" </dev/null 2>&1 |
         sed -u 's/\r$//' | tee "$work/out-$number" | grep -a --line-buffered '^linux: ' || true

