@@ -1,12 +1,15 @@
 """Tries numarun-agent over the program in plain folders: what it tells, what the groups request then, and how it goes on where a
 write, a group, a config or a line of input is not as it ought to be."""
 
+from __future__ import annotations
+
 import json
 import os
 import re
 import shutil
 import signal
 import subprocess
+from typing import Mapping, Optional, Sequence, Tuple
 
 from sites import IN_FOLDERS, QUOTA, Open, Site, untimed
 from numarun_host import cgroups, states
@@ -22,18 +25,18 @@ PLAIN = (MACHINE, "--program", IN_FOLDERS)
 
 
 @case
-def plain():
+def plain() -> None:
     """Without a tree: the plans alone."""
     events = f"created database {DATABASE}\ncreated packets {PACKETS}\n"
     status, out, err = told("numarun-agent", *PLAIN, text=events)
     expected = [f"create database {DATABASE}", f"create packets {PACKETS}", "plan total 182", "hold database 1-3,6-8,17-19,22-24", "hold packets 4-5,20-21",
                 "pool 0,9-16,25-31", "done"]
     check("two containers at once", (status, untimed(out), err), (0, expected, ""))
-    for more, expected in [("", 0), ("offline 5\n", 1), ("offline 5\nonline 5\n", 0), ("created x no\n", 1), ("ended nobody\n", 1),
+    for more, left in [("", 0), ("offline 5\n", 1), ("offline 5\nonline 5\n", 0), ("created x no\n", 1), ("ended nobody\n", 1),
                            ("offline 0\nrebalance\n", 1), ("ended packets\n", 0), ("\n", 0), ("foo\n", 1), ("created x\n", 1), ("\xff\n", 1),
                            (f"created ../x {WEB}\n", 1), ("x" * 300000 + "\nrebalance\n", 1)]:
         status, out, err = told("numarun-agent", *PLAIN, text=events + more)
-        check(f"after {more[:40]!r}", (status, "plan" in out or "short demand 4" in out, err), (expected, True, ""))
+        check(f"after {more[:40]!r}", (status, "plan" in out or "short demand 4" in out, err), (left, True, ""))
     status, out, _ = told("numarun-agent", *PLAIN, text=f"foo\ncreated x\nended x\ncreated .. {WEB}\n" + events + "offline 0\nrebalance\n")
     expected = ["refused: line 1: 'foo' is no event (see --help)", "refused: line 2: 'created x' is no event (see --help)",
                 "refused: line 3: unknown x", "refused E51 Reserved: offline 0", f"refused E91 BadId: .. {WEB}"]
@@ -43,7 +46,7 @@ def plain():
 
 
 @case
-def restart():
+def restart() -> None:
     """A new run adopts what the groups request, and writes nothing else into them."""
     site = Site()
     for name, count in (("a", 2), ("b", 3), ("s", 0)):
@@ -65,7 +68,7 @@ def restart():
 
 
 @case
-def under_its_id():
+def under_its_id() -> None:
     """A container that came back under its id, one whose group is not there, and one with a config in parts."""
     site = Site()
     site.come("a", 2)
@@ -98,7 +101,7 @@ def under_its_id():
 
 
 @case
-def refused_writes():
+def refused_writes() -> None:
     """A tree that turns read-only and back, for an agent that runs and for one that starts."""
     site = Site()
     site.come("a", 2)
@@ -137,7 +140,7 @@ def refused_writes():
 
 
 @case
-def admission():
+def admission() -> None:
     """A newcomer without a place runs on the pool, also across a restart, until there is room."""
     site = Site()
     for name, count in (("a", 4), ("b", 2), ("s", 0)):
@@ -168,7 +171,7 @@ def admission():
 
 
 @case
-def fewer():
+def fewer() -> None:
     """One that takes fewer CPUs where one went, also across a restart, and a newcomer that does."""
     site = Site()
     site.come("a", "5-6", annotations={"numarun.least": "1"})
@@ -195,7 +198,7 @@ def fewer():
 
 
 @case
-def who_is_pinned():
+def who_is_pinned() -> None:
     site = Site()
     site.come("whole", 2)
     site.come("part", 0.5)
@@ -211,7 +214,7 @@ def who_is_pinned():
 
 
 @case
-def named_cpus():
+def named_cpus() -> None:
     """One with no quota asks for the cores that it names as a whole, but for reserved ones, and not for as many CPUs as it names."""
     site = Site(machine={"nodes": ["0-3,8-11", "4-7,12-15"], "distances": [[10, 21], [21, 10]], "reserved": "0,8",
                          "cores": ["0,8", "1,9", "2,10", "3,11", "4,12", "5,13", "6,14", "7,15"]})
@@ -223,7 +226,7 @@ def named_cpus():
 
 
 @case
-def refused_sections():
+def refused_sections() -> None:
     """Who asks for CPUs that nobody can have runs on the pool, and is told anew when the config is another one."""
     site = Site()
     site.come("a", 2)
@@ -243,7 +246,7 @@ def refused_sections():
 
 
 @case
-def pool_hook():
+def pool_hook() -> None:
     site = Site()
     site.come("a", 2)
     hook = site.at("hook")
@@ -256,7 +259,7 @@ def pool_hook():
 
 
 @case
-def flapping():
+def flapping() -> None:
     """Ten CPUs that go and come: who has none of them is not written again."""
     site = Site({"nodes": ["0-15"], "distances": [[10]], "reserved": "0"})
     site.come("a", "1-3")
@@ -293,7 +296,7 @@ def flapping():
 
 
 @long_case
-def storm(count=400):
+def storm(count: int = 400) -> None:
     """400 containers at once: one plan, and one write each. They end at once, too."""
     site = Site({"nodes": ["0-127"], "distances": [[10]], "reserved": "0"})
     for k in range(count):
@@ -311,7 +314,7 @@ def storm(count=400):
 
 
 @case
-def rest():
+def rest() -> None:
     """Groups of the system itself are held on the pool; one that is not there is none, and comes when it is."""
     site = Site()
     site.come("a", 2)
@@ -329,7 +332,7 @@ def rest():
 
 
 @case
-def recorded():
+def recorded() -> None:
     """The figures for node_exporter, and the certificates by their dates, which hold."""
     site = Site({"nodes": ["0-3", "4-7"], "distances": [[10, 21], [21, 10]], "reserved": "0"})
     site.online("0-7")
@@ -344,9 +347,9 @@ def recorded():
     check("its figures", figures, {f"numarun_{name}": figure for name, figure in expected.items()})
     site.come("big", 4)
     check("a newcomer waits", site.run(*more, rounds="2")[0], 1)
-    figures = open(site.at("numarun.prom")).read()
-    check("and is counted", ["\nnumarun_containers_waiting 1\n" in figures, "\nnumarun_undone 1\n" in figures], [True, True])
-    waited = float(re.search(r"^numarun_waited_seconds_total (.+)$", figures, re.M)[1])
+    text = open(site.at("numarun.prom")).read()
+    check("and is counted", ["\nnumarun_containers_waiting 1\n" in text, "\nnumarun_undone 1\n" in text], [True, True])
+    waited = float(text.partition("\nnumarun_waited_seconds_total ")[2].split("\n")[0])
     check("and for how long", 0.05 < waited < 30, True)
     kept = sorted(os.listdir(site.at("kept")))
     texts = [open(site.at("kept", name)).read() for name in kept]
@@ -360,7 +363,7 @@ def recorded():
 
 
 @case
-def one_agent():
+def one_agent() -> None:
     """The second one is refused; after a kill -9 the next one waits for the run of the one before."""
     site = Site()
     site.come("a", 1)
@@ -380,7 +383,7 @@ def one_agent():
 
 
 @case
-def beside_a_run():
+def beside_a_run() -> None:
     """An agent beside a run by hand, and a run beside an agent: who comes second is refused."""
     site = Site()
     site.come("a", 1)
@@ -400,34 +403,29 @@ def beside_a_run():
 
 
 @case
-def told_by_lines():
+def told_by_lines() -> None:
     """Events of standard input, with groups of their own."""
     site = Site()
     site.make_group("x", group="system.slice")
     site.come("a", 2)
     site.come("rest")
     agent = Open(site, "--listen", stdin=subprocess.PIPE)
-
-    def tell(text):
-        agent.process.stdin.write(text)
-        agent.process.stdin.flush()
-
-    tell(f"created a {site.at('g/a')}\ncreated rest {site.at('g/rest')} system.slice\n")
+    agent.tell(f"created a {site.at('g/a')}\ncreated rest {site.at('g/rest')} system.slice\n")
     agent.until("done")
     check("a group of another name", open(site.at("root/system.slice/cpuset.cpus")).read(), "0,3-7\n")
-    tell(f"ended a\ncreated a {site.at('g/a')}\n")
+    agent.tell(f"ended a\ncreated a {site.at('g/a')}\n")
     check("ended and created at once", agent.until("plan")[:2], ["ended a", f"adopt a {site.at('g/a')} 1-2"])
-    agent.process.stdin.close()
+    agent.end_input()
     check("the end of input", agent.process.wait(), 0)
 
 
 @case
-def places():
+def places() -> None:
     """Where runtimes say that a group is."""
     site = Site()
     state = site.at("state")
     os.mkdir(state)
-    for config, file, expected in [
+    table: Sequence[Tuple[Mapping[str, object], Optional[Tuple[str, object]], str]] = [
         ({}, None, "numarun/c"),
         ({"linux": {"cgroupsPath": "/libpod_parent/x"}}, None, "libpod_parent/x"),
         ({"linux": {"cgroupsPath": "../../etc"}}, None, "etc"),
@@ -436,7 +434,8 @@ def places():
         ({"linux": {"cgroupsPath": 5}}, None, "numarun/c"),
         ({"linux": {"cgroupsPath": "/a"}}, ("status", {"cgroup-path": "/b/c"}), "b/c"),
         ({"linux": {"cgroupsPath": "/a"}}, ("state.json", {"cgroup_paths": {"": site.at("root/k/l")}}), "k/l"),
-    ]:
+    ]
+    for config, file, expected in table:
         for name in os.listdir(state):
             os.remove(os.path.join(state, name))
         if file:
@@ -447,7 +446,7 @@ def places():
 
 
 @long_case
-def refusals():
+def refusals() -> None:
     words_and_help("numarun-agent", "operators/numarun-agent examples/machines/two-socket.json")
     refuses("numarun-agent", MACHINE, "--program", "no-such-program", says="no-such-program: no program (see --program)")
     bad_files("numarun-agent", ["--program", IN_FOLDERS])
@@ -459,7 +458,7 @@ def refusals():
     os.chmod(name, 0o755)
     status, _, err = told("numarun-agent", MACHINE, "--program", name, text="rebalance\n")
     check("a program that ends", (status, "ends: ended at 'begin direct' with no answer, status 0" in err), (1, True))
-    refuses("numarun-agent", MACHINE, "--program", shutil.which("yes"), says=f"{MACHINE}: run ")
+    refuses("numarun-agent", MACHINE, "--program", shutil.which("yes") or "", says=f"{MACHINE}: run ")
     refuses("numarun-agent", *PLAIN, "--cgroup", "no-such-root", says="no-such-root: no folder")
     refuses("numarun-agent", *PLAIN, "--slit", "no-such-table", says="refused E113 ReadFault")
     check("a folder that is not there yet", told("numarun-agent", *PLAIN, "--watch", "no-such-folder", "--online", "/dev/null", "--rounds", "1")[0], 1)

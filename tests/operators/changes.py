@@ -1,11 +1,15 @@
 """Tries the agent where something changes under it: limits, CPUs that go, configs that can't be seen for a while, what others write
 into a group, and a machine that is another one than the machine file's."""
 
+from __future__ import annotations
+
 import os
 import signal
 import time
+from typing import List
 
 from sites import QUOTA, Open, Site, of
+from numarun_host.commands import Level, Say
 from numarun_host.cpus import read_list
 from numarun_host.ledger import Ledger, Settings, Topic
 from numarun_host.machine import Machine
@@ -15,17 +19,17 @@ from trial import case, check
 LEAST, STAY = "numarun.least", "numarun.stay"
 
 
-def writes(site, name):
+def writes(site: Site, name: str) -> List[str]:
     """What was written for one since the last time."""
     return [line.split(" ")[1] for line in site.log() if line.startswith(f"{name} ")]
 
 
-def count(site, name):
+def count(site: Site, name: str) -> int:
     return len(read_list(site.has(name)[0], name))
 
 
 @case
-def gone_cpus():
+def gone_cpus() -> None:
     """One whose only CPU goes runs on the pool until there is room; a newcomer has its CPU at once, and nobody else is touched."""
     site = Site()
     site.come("x", "5")
@@ -50,7 +54,7 @@ def gone_cpus():
 
 
 @case
-def detour():
+def detour() -> None:
     """Who keeps none of his CPUs gets his new ones by one write where they are free, and does not run on the reserved one meanwhile."""
     site = Site()
     site.come("a", 1)
@@ -73,7 +77,7 @@ def detour():
 
 
 @case
-def among_several():
+def among_several() -> None:
     """Of those who are short the youngest waits, and the others keep what they have."""
     site = Site()
     for name in ("a", "b", "c"):
@@ -89,7 +93,7 @@ def among_several():
 
 
 @case
-def limits():
+def limits() -> None:
     """A limit that changes is told as it is: no end, no way by the reserved CPU, and the CPUs that are kept."""
     site = Site()
     site.come("w", 3)
@@ -121,7 +125,7 @@ def limits():
 
 
 @case
-def kept_place():
+def kept_place() -> None:
     """One whose limit changed is still older than those that came behind it; a restart finds a lowered one with more than it asks for."""
     site = Site()
     site.come("a", 3)
@@ -142,7 +146,7 @@ def kept_place():
 
 
 @case
-def other_configs():
+def other_configs() -> None:
     """A config by which one is pinned, is shared, or is refused."""
     site = Site()
     site.come("a", 2)
@@ -164,7 +168,7 @@ def other_configs():
 
 
 @case
-def updated_groups():
+def updated_groups() -> None:
     """What crun update and podman update leave: cpu.max and cpuset.mems of the group, while the config says what it did."""
     site = Site({"nodes": ["0-3", "4-7"], "distances": [[10, 21], [21, 10]], "reserved": "0"})
     site.online("0-7")
@@ -195,7 +199,7 @@ def updated_groups():
 
 
 @case
-def unseen():
+def unseen() -> None:
     """A config, or the whole folder, that can't be seen for a while ends nobody who has a process; who has none has ended."""
     site = Site()
     for name, count in (("a", 2), ("b", 1), ("s", 0)):
@@ -220,7 +224,7 @@ def unseen():
 
 
 @case
-def unseen_at_the_start():
+def unseen_at_the_start() -> None:
     """The same where no agent ran meanwhile: nobody gets what one has who can't be seen, and the others go on."""
     site = Site()
     site.come("a", 2)
@@ -246,7 +250,7 @@ def unseen_at_the_start():
 
 
 @case
-def unseen_without_an_id():
+def unseen_without_an_id() -> None:
     """The same where it is not known any more who that was: there is no plan until it can be seen, or has ended."""
     site = Site()
     site.come("a", 2)
@@ -278,7 +282,7 @@ if hides:
 
 
 @case
-def away_for_a_moment():
+def away_for_a_moment() -> None:
     """The copy of a config is away just when numarun reads it: it is told of again, and nobody gets what it has meanwhile."""
     site = Site()
     site.come("a", 2)
@@ -293,7 +297,7 @@ def away_for_a_moment():
 
 
 @case
-def late_write():
+def late_write() -> None:
     """A container came back under its id while a plan was handed over, so that its new group was written for the one before, and its config
     is not there yet: nobody shares these CPUs with it."""
     site = Site()
@@ -315,7 +319,7 @@ def late_write():
 
 
 @case
-def no_work():
+def no_work() -> None:
     """A group that can't be written asks for no plan again and again, and is tried at growing pauses."""
     site = Site()
     site.come("db", 2)
@@ -339,7 +343,7 @@ def no_work():
 
 
 @case
-def drift():
+def drift() -> None:
     """What others write is written over again, once a look, and nobody else notices; at a container's own restart there is none."""
     site = Site({"nodes": ["0-3", "4-7"], "distances": [[10, 21], [21, 10]], "reserved": "0"})
     site.online("0-7")
@@ -371,7 +375,7 @@ def drift():
 
 
 @case
-def machines():
+def machines() -> None:
     """A machine that is not just as in its file: a CPU more, a reserved one that is off, a partition beside. The agent goes on, and starts."""
     site = Site({"nodes": ["0-7"], "distances": [[10]], "reserved": "0-1"})
     site.come("a", 2)
@@ -405,7 +409,7 @@ def machines():
 
 
 @case
-def no_reserved():
+def no_reserved() -> None:
     """All reserved CPUs are off: another core is reserved, and those who run keep what they have."""
     site = Site({"nodes": ["0-7"], "distances": [[10]], "reserved": "7"})
     site.come("a", "2-3")
@@ -427,7 +431,7 @@ def no_reserved():
 
 
 @case
-def one_group():
+def one_group() -> None:
     """Two ids whose configs name one group: the second one is not told."""
     site = Site()
     site.make_group(None, group="pod")
@@ -439,7 +443,7 @@ def one_group():
 
 
 @case
-def least_room():
+def least_room() -> None:
     """One that waits and takes fewer gets fewer where these fit, and all of them later."""
     site = Site()
     site.come("a", 3)
@@ -461,19 +465,19 @@ def least_room():
 
 
 @case
-def not_yet():
+def not_yet() -> None:
     """What a runtime is in the midst of making is called absent at the second look, and not at the first; or else at the end."""
     site = Site()
     ledger = Ledger(Settings(Machine(site.at("machine.json"))))
     check("at the first look", (list(say_absent(ledger, "a", "no such group")), (Topic.CONTAINER, "a") in ledger.problems), ([], True))
-    check("at the second", [said.line for said in say_absent(ledger, "a", "no such group")], ["absent a: no such group"])
+    check("at the second", list(say_absent(ledger, "a", "no such group")), [Say("absent a: no such group", Level.WARNING)])
     site.come("ghost", 1, group=False)
     status, said = site.run()
     check("at the end", (status, of(said, "absent")), (1, [f"absent ghost: {site.at('root/numarun/ghost')}: no such group"]))
 
 
 @case
-def bounded_certificates():
+def bounded_certificates() -> None:
     """The oldest certificates go where there are more than are kept."""
     site = Site()
     os.makedirs(site.at("kept"))

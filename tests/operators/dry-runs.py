@@ -1,10 +1,12 @@
 """Tries numarun-dry-run: where a container would go, by hand; that another run comes to the same, and that nothing is written."""
 
+from __future__ import annotations
+
 import json
 import os
 import shutil
 
-from trial import EXAMPLES, PROGRAM, TOP, bad_files, bad_output, case, check, piped, refuses, scratch, told, words_and_help, written
+from trial import EXAMPLES, PROGRAM, TOP, Told, bad_files, bad_output, case, check, piped, refuses, scratch, told, words_and_help, written
 
 MACHINE = os.path.join(EXAMPLES, "machines", "two-socket.json")
 DATABASE, PACKETS, WEB, CONTROL = (f"examples/bundles/{name}" for name in ("database", "packet-processing", "web", "real-time"))
@@ -29,12 +31,12 @@ each of these makes room by itself:
   allow new 2 CPUs more, as """
 
 
-def dry(*words, **more):
-    return told("numarun-dry-run", MACHINE, "--program", PROGRAM, "--pin", "all", *words, **more)
+def dry(*words: str, text: str = "") -> Told:
+    return told("numarun-dry-run", MACHINE, "--program", PROGRAM, "--pin", "all", *words, text=text)
 
 
 @case
-def places():
+def places() -> None:
     """Where a container would go, and that there is no place for one."""
     for words, expected in CASES:
         check(f"{' '.join(words)}", dry(*words), (0, expected + "\n", ""))
@@ -43,7 +45,7 @@ def places():
 
 
 @case
-def rules():
+def rules() -> None:
     """Who is pinned, and what is left to the pool."""
     status, out, err = dry("--cpus", "0.5", "--pin", "whole")
     check("a part of a CPU", (status, out.splitlines()[0], err), (0, "new asks for no CPUs of its own, and would run on the pool: 0-31", ""))
@@ -58,7 +60,7 @@ def rules():
 
 
 @case
-def beside_what_runs():
+def beside_what_runs() -> None:
     """Beside the containers of a folder, of which one is no container, and one no JSON; and where a CPU is offline."""
     running = scratch("running")
     for name, bundle in [("database", DATABASE), ("packets", PACKETS), ("a b", WEB), ("not-yet", None)]:
@@ -79,7 +81,7 @@ def beside_what_runs():
 
 
 @case
-def behind_a_script():
+def behind_a_script() -> None:
     """Behind a script that ends in the midst of a hand-over, has the id already, or has an ended container."""
     check("an open hand-over", dry(CONTROL, "--after", "-", text=f"create database {DATABASE}\nbegin\n")[1].splitlines()[0], "new would have 12,28: 2 CPUs, distance 20")
     check("an id that is taken", dry(CONTROL, "--after", "-", text=f"create new {WEB}\n")[1].splitlines()[0], "new-2 would have 12,28: 2 CPUs, distance 20")
@@ -88,7 +90,7 @@ def behind_a_script():
 
 
 @case
-def refusals():
+def refusals() -> None:
     words_and_help("numarun-dry-run", "operators/numarun-dry-run examples/machines/two-socket.json examples/bundles/real-time")
     bad_files("numarun-dry-run", ["--program", PROGRAM], [WEB])
     bad_output("numarun-dry-run", MACHINE, WEB, "--program", PROGRAM)

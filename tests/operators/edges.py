@@ -1,6 +1,8 @@
 """Tries the agent at its edges: a config that is replaced between two reads, what is left in its folder, a slow command of --pool, a program
 that stands still or has no pids left, one id in two folders, folders without containers, long ids, a container that has stopped."""
 
+from __future__ import annotations
+
 import json
 import os
 import re
@@ -8,8 +10,10 @@ import signal
 import socket
 import subprocess
 import time
+from typing import Sequence, Tuple
 
 from sites import IN_FOLDERS, QUOTA, Open, Site, of
+from numarun_host.configs import Config
 from numarun_host.devices import node_of_device
 from numarun_host.ledger import Ledger, Settings, Sighting
 from numarun_host.machine import Machine
@@ -29,7 +33,7 @@ if line.startswith(b"create s0 ") and os.path.exists(new):
 
 
 @case
-def between():
+def between() -> None:
     """A config by which one is pinned comes between the agent's read and numarun's: it waits, as it asks by then."""
     site = Site({"nodes": ["0-3"], "distances": [[10]], "reserved": "0"})
     site.online("0-3")
@@ -44,7 +48,7 @@ def between():
 
 
 @case
-def nothing_left():
+def nothing_left() -> None:
     """What the agent keeps of a container goes with it, also of one that was refused, or that waited."""
     site = Site()
     site.come("a", 2)
@@ -69,7 +73,7 @@ def nothing_left():
 
 
 @case
-def slow_pool():
+def slow_pool() -> None:
     """A slow command of --pool keeps no hook waiting, and none is run beside another; one that does not end is ended."""
     site = Site()
     with open(site.at("slow"), "w") as file:
@@ -96,15 +100,15 @@ if line.startswith(b"create b"):
 
 
 @case
-def standing_still():
+def standing_still() -> None:
     """A program that answers nothing any more: SIGTERM is heard all the same, and without one the agent ends after its patience."""
     for more, number, line, says in (((), signal.SIGTERM, "create", "where it is to end"), (("--patience", "2"), None, "sets", "in 2 s")):
         site = Site()
         site.come("a", 2)
         words = command("numarun-agent", *site.words(*site.stand_in(STANDING.replace("create", line)), *more))
         run = subprocess.Popen(words, stdin=subprocess.DEVNULL, stdout=subprocess.PIPE, stderr=subprocess.PIPE, text=True)
-        while "done" not in run.stdout.readline():
-            pass
+        assert run.stdout
+        check("it has begun", any("done" in line for line in iter(run.stdout.readline, "")), True)
         site.come("b", 1)
         time.sleep(1)
         began = time.monotonic()
@@ -151,7 +155,7 @@ if line.startswith(b"create b") and not os.path.exists(once):
 
 
 @case
-def no_pids():
+def no_pids() -> None:
     """A run that has no pids left is followed by another one, which takes up all that is there."""
     site = Site()
     site.come("a", 2)
@@ -164,7 +168,7 @@ def no_pids():
 
 
 @case
-def told_to_end():
+def told_to_end() -> None:
     """Who has no room is no fault of a unit that is stopped; what is refused is."""
     site = Site()
     site.come("a", 6)
@@ -183,7 +187,7 @@ def told_to_end():
 
 
 @case
-def two_folders():
+def two_folders() -> None:
     """One id in two folders: the one that is told already goes on, and the other one is named."""
     site = Site()
     site.come("db", 2, linux={"cgroupsPath": "/default/db"})
@@ -205,7 +209,7 @@ def two_folders():
 
 
 @case
-def silent_folders():
+def silent_folders() -> None:
     """A watched folder that is not there, or has no containers, is named once."""
     site = Site()
     os.makedirs(site.at("runtime/moby"))
@@ -220,7 +224,7 @@ def silent_folders():
 
 
 @case
-def long_ids():
+def long_ids() -> None:
     """An id of 64 digits is shortened, and stands behind the name that a runtime knows."""
     site, ids = Site(), ["9" * 12 + "a" * 52, "8" * 12 + "b" * 52, "7" * 12 + "c" * 52]
     os.makedirs(site.at("docker", ids[0]))
@@ -243,7 +247,7 @@ def long_ids():
 
 
 @long_case
-def stopped():
+def stopped() -> None:
     """One that its runtime calls stopped gives its CPUs back, and gets some anew when it has a process again."""
     site = Site()
     site.come("db", 4)
@@ -276,12 +280,12 @@ def stopped():
 
 
 @case
-def no_pause():
+def no_pause() -> None:
     check("--pause 0", told("numarun-agent", "machine.json", "--pause", "0")[0], 2)
 
 
 @case
-def odd_configs():
+def odd_configs() -> None:
     """Configs that no runtime writes: each is named with its reason, and the others go on."""
     site = Site()
     os.makedirs(site.at("g/folder/config.json"))
@@ -303,7 +307,7 @@ def odd_configs():
 
 
 @case
-def pool_floor():
+def pool_floor() -> None:
     """By default newcomers wait rather than bring the pool below two cores, or a tenth; who had CPUs before keeps them."""
     site = Site()
     for k in range(10):
@@ -334,7 +338,7 @@ def pool_floor():
 
 
 @case
-def wishes():
+def wishes() -> None:
     """What a container says of itself by its environment, where its runtime has no annotations."""
     site = Site()
     for name, count, more in (("pinned", 2, "NUMARUN_PIN=true"), ("other", 2, "NUMARUN_PIN=false"), ("odd", 2, "NUMARUN_PIN")):
@@ -349,16 +353,18 @@ def wishes():
 
 
 @case
-def near_a_device():
+def near_a_device() -> None:
     """The home of one that names a device is the node of that."""
     folder = Site().folder
-    for path, node in (("class/net/eth0/device", "1"), ("class/block/nvme0n1/device/device", "2"), ("bus/pci/devices/0000:3b:00.0", "3"), ("class/net/lo0/device", "-1")):
+    for path, text in (("class/net/eth0/device", "1"), ("class/block/nvme0n1/device/device", "2"), ("bus/pci/devices/0000:3b:00.0", "3"), ("class/net/lo0/device", "-1")):
         os.makedirs(os.path.join(folder, path))
         with open(os.path.join(folder, path, "numa_node"), "w") as file:
-            file.write(f"{node}\n")
+            file.write(f"{text}\n")
     site = Site({"nodes": ["0-3", "4-7"], "distances": [[10, 21], [21, 10]], "reserved": "0"})
     turn = Turn(Ledger(Settings(Machine(site.at("machine.json"))), frozenset({0, 1})), Look(0.0))
-    for node, named, expected in ((1, {}, {1}), (0, {}, {0}), (7, {}, None), (1, {"linux": {"resources": {"cpu": {"mems": "0"}}}}, None)):
+    named_nodes: Config = {"linux": {"resources": {"cpu": {"mems": "0"}}}}
+    table: Sequence[Tuple[int, Config, object]] = ((1, {}, {1}), (0, {}, {0}), (7, {}, None), (1, named_nodes, None))
+    for node, named, expected in table:
         sighting = Sighting(Told("/g", "/g"), None, named, Group("/x", 1), near=node)
         check(f"a home near node {node}", choose_home(turn, sighting, named, 2), expected)
     found = {name: node_of_device(name, folder) for name in ("eth0", "nvme0n1", "0000:3b:00.0", "lo0", "eth9", "../eth0", "", "a/b")}
@@ -366,7 +372,7 @@ def near_a_device():
 
 
 @case
-def words():
+def words() -> None:
     """Words of a file, a configuration that is looked at, and the version."""
     site = Site()
     with open(site.at("agent.conf"), "w") as file:

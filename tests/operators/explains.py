@@ -2,15 +2,20 @@
 like another brings the total down by no more than it says, a container that asks for one more adds no less, what is named as
 enough makes room, and one CPU less of it does not."""
 
+from __future__ import annotations
+
 import copy
 import json
 import os
 import random
 import re
 import shutil
+from random import Random
+from typing import Any, Dict, Iterable, Optional, Tuple
 
 from trial import EXAMPLES, PROGRAM, bad_files, bad_output, case, check, long_case, piped, refuses, scratch, told, words_and_help
 from numarun_host import answers, cpus as lists, explain
+from numarun_host.answers import Answers
 from numarun_host.machine import Machine
 from numarun_host.program import Run
 
@@ -154,7 +159,7 @@ WRONG = [
 
 
 @case
-def by_hand():
+def by_hand() -> None:
     json.dump(TINY, open(SMALL, "w"))
     for name, text, expected in [("far", FAR, FAR_TOLD), ("moved", MOVED, MOVED_TOLD), ("bound", BOUND, BOUND_TOLD), ("short", SHORT, SHORT_TOLD),
                                  ("short twice", TWICE, TWICE_TOLD), ("not sure", NOT_SURE, NOT_SURE_TOLD)]:
@@ -172,8 +177,12 @@ def by_hand():
 
 # What is claimed, tried out.
 
+Members = Dict[str, Any]                # of a machine file
+Containers = Dict[str, Dict[str, Any]]  # by its id a container's CPU section
+Planned = Tuple[Any, Any]               # a machine and its answers, or nothing twice
 
-def run_of(machine, containers):
+
+def run_of(machine: Members, containers: Containers) -> Planned:
     """The answers where these containers are made and planned: pairs of a name and a CPU section."""
     path, lines = scratch("m.json"), []
     json.dump(machine, open(path, "w"))
@@ -191,17 +200,17 @@ def run_of(machine, containers):
         found = one.ask("rebalance") + one.ask("certificate")
     finally:
         one.close()
-    machine = Machine(path)
-    return machine, answers.Answers("-", machine, found)
+    planned = Machine(path)
+    return planned, answers.Answers("-", planned, found)
 
 
-def random_case(random, threads):
+def random_case(random: Random, threads: int) -> Tuple[Members, Containers]:
     """A machine of which each core has so many CPUs, and containers."""
     nodes, each = random.choice([(1, 6), (2, 5), (3, 4)])
     rows = [[10 if a == b else random.choice([12, 16, 21, 32]) for b in range(nodes)] for a in range(nodes)]
     containers, count = {}, nodes * each
 
-    def cpus_of(cores):
+    def cpus_of(cores: Iterable[int]) -> str:
         return lists.print_list({core + count * k for core in cores for k in range(threads)})
 
     machine = {"nodes": [cpus_of(range(each * k, each * k + each)) for k in range(nodes)], "distances": rows, "reserved": cpus_of([0])}
@@ -215,13 +224,13 @@ def random_case(random, threads):
     return machine, containers
 
 
-def plan_holds(machine, containers, found, random):
+def plan_holds(machine: Members, containers: Containers, found: Answers, random: Random) -> Optional[str]:
     """What is said of a plan: one more for a container, and one more CPU, or core, like another."""
     told, total = found.certificates[0], found.plans[0].total
     of = Machine(scratch("m.json"))
     plan, threads = explain.Explained(told, of), of.threads
     for name in containers:
-        least = int(re.search(r"would add ([0-9]+) or more", plan.one_more(name))[1])
+        least = int(plan.one_more(name).partition("would add ")[2].split()[0])
         more = copy.deepcopy(containers)
         more[name]["quota"] += 100000 * threads
         after = run_of(machine, more)[1]
@@ -230,8 +239,8 @@ def plan_holds(machine, containers, found, random):
     text = "\n".join(line for name in told.demand for line in plan.lines(name))
     for cpus, worth in re.findall(r"another (?:CPU|core) like (\S+) would bring the total down by up to ([0-9]+)", text):
         like = random.choice(sorted(lists.read_list(cpus, "")))
-        new, bigger, wider = len(lists.read_list(",".join(machine["nodes"]), "")), copy.deepcopy(machine), copy.deepcopy(containers)
-        new = lists.print_list(range(new, new + threads))
+        count, bigger, wider = len(lists.read_list(",".join(machine["nodes"]), "")), copy.deepcopy(machine), copy.deepcopy(containers)
+        new = lists.print_list(range(count, count + threads))
         node = next(k for k, one in enumerate(machine["nodes"]) if like in lists.read_list(one, ""))
         bigger["nodes"][node] += f",{new}"
         if threads > 1:
@@ -245,11 +254,11 @@ def plan_holds(machine, containers, found, random):
     return None
 
 
-def is_planned(machine, containers):
+def is_planned(machine: Members, containers: Containers) -> bool:
     return bool(run_of(machine, containers)[1].plans)
 
 
-def smaller(containers, name, count):
+def smaller(containers: Containers, name: str, count: int) -> Containers:
     """The containers with this count for one, which is gone where it is none."""
     fewer = copy.deepcopy(containers)
     if count:
@@ -259,9 +268,10 @@ def smaller(containers, name, count):
     return fewer
 
 
-def shortage_heals(machine, containers, text, threads):
+def shortage_heals(machine: Members, containers: Containers, text: str, threads: int) -> Optional[str]:
     """What is said to make room makes room, and one CPU, or core, less of it does not."""
     found = re.search(r"missing: ([0-9]+) CPUs?(?: for these, and ([0-9]+) in all)?", text)
+    assert found
     missing = int(found[2] or found[1])
     for name, before, after in re.findall(r"^  end (\S+), or shrink it from ([0-9]+) to ([0-9]+)", text, re.M):
         if int(before) - int(after) != missing or not is_planned(machine, smaller(containers, name, int(after))):
@@ -291,7 +301,7 @@ def shortage_heals(machine, containers, text, threads):
     return None if together or "makes room" in text else "nothing is said"
 
 
-def tried_out(count, seed, threads=1):
+def tried_out(count: int, seed: int, threads: int = 1) -> None:
     """Random cases; how many were plans with far CPUs and shortages, so that enough are seen."""
     chance, seen = random.Random(seed), {"far": 0, "short": 0, "alone": 0, "allow": 0, "together": 0, "more": 0}
     for at in range(count):
@@ -316,7 +326,7 @@ def tried_out(count, seed, threads=1):
 
 
 @case
-def large():
+def large() -> None:
     """1,024 containers in a row, each with a CPU that the next one may have too, which are short of two CPUs. The first and the
     last can be ended: of one between, the two that are missing are not near enough to both its sides."""
     machine, rows = {"nodes": [f"{2048 * k}-{2048 * k + 2047}" for k in range(2)], "distances": [[10, 21], [21, 10]], "reserved": "0"}, []
@@ -330,17 +340,17 @@ def large():
 
 
 @long_case
-def tried_out_by_chance():
+def tried_out_by_chance() -> None:
     tried_out(60, 1)
 
 
 @case
-def tried_out_with_cores():
+def tried_out_with_cores() -> None:
     tried_out(30, 7, threads=2)
 
 
 @case
-def refusals():
+def refusals() -> None:
     for path, machine in ((SMALL, TINY), (CORES, PAIRS)):
         json.dump(machine, open(path, "w"))
     words_and_help("numarun-explain", "operators/numarun-explain examples/machines/two-socket.json")

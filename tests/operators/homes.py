@@ -1,11 +1,14 @@
 """Tries the homes that the agent and numarun-dry-run give to containers which name no nodes of memory, and containers that are never moved."""
 
+from __future__ import annotations
+
 import os
 
 from sites import IN_FOLDERS, QUOTA, Open, Site
-from numarun_host import homes, memory as memories
+from numarun_host import homes
 from numarun_host.cpus import read_list
 from numarun_host.machine import Machine
+from numarun_host.memory import free_memory
 from trial import case, check, told
 
 # Four nodes of two cores with two CPUs each; 0 is at 15 from 1, and 2 from 3.
@@ -15,7 +18,7 @@ TWO = {"nodes": ["0-3", "4-7"], "distances": [[10, 21], [21, 10]], "reserved": "
 GIB = 1 << 30
 
 
-def memory(site, *free):
+def memory(site: Site, *free: int) -> None:
     for node, bytes in enumerate(free):
         os.makedirs(site.at("nodes", f"node{node}"), exist_ok=True)
         with open(site.at("nodes", f"node{node}", "meminfo"), "w") as file:
@@ -23,7 +26,7 @@ def memory(site, *free):
 
 
 @case
-def chosen():
+def chosen() -> None:
     """By hand: the fewest nodes, near each other, with little more than is asked for; memory decides where it is short."""
     site = Site(FOUR)
     machine = Machine(site.at("machine.json"))
@@ -43,18 +46,18 @@ def chosen():
     ]:
         memory(site, *(GIB * gib for gib in free_gib))
         config = {"linux": {"resources": {"memory": {"limit": limit * GIB}}}}
-        found = homes.home_of(machine, config, count, free - read_list(taken, "taken"), memories.free_memory(site.at("nodes"), machine))
+        found = homes.home_of(machine, config, count, free - read_list(taken, "taken"), free_memory(site.at("nodes"), machine))
         check(f"a home for {count} CPUs and {limit} GiB of {free_gib} without {taken!r}", found, expected)
     site = Site({"nodes": ["0-1", "2-3", "4-5", "6-7"], "distances": [[10 if a == b else 30 if {a, b} == {1, 2} else 20 for b in range(4)] for a in range(4)],
                  "reserved": "0"})
     spread = Machine(site.at("machine.json"))
     check("two large nodes rather than three near ones", homes.home_of(spread, {}, 4, spread.present - {0, 7}, {}), {1, 2})
     named = {"linux": {"resources": {"cpu": {"mems": "3"}}}}
-    check("one that names its nodes", homes.home_of(machine, named, 2, free, memories.free_memory(site.at("nodes"), machine)), None)
+    check("one that names its nodes", homes.home_of(machine, named, 2, free, free_memory(site.at("nodes"), machine)), None)
 
 
 @case
-def kept():
+def kept() -> None:
     """A home is told with the copy of the config, kept across restarts, and no newcomer is given what is promised."""
     site = Site(TWO)
     site.online("0-7")
@@ -83,7 +86,7 @@ def kept():
 
 
 @case
-def where_it_is():
+def where_it_is() -> None:
     """What a container has on a node counts for its home there, and one that fits nowhere is named."""
     site = Site(TWO)
     site.online("0-7")
@@ -97,7 +100,7 @@ def where_it_is():
 
 
 @case
-def none():
+def none() -> None:
     """Without homes each CPU is as near as another, and all nodes are its memory."""
     site = Site(TWO)
     site.online("0-7")
@@ -112,7 +115,7 @@ def none():
 
 
 @case
-def later():
+def later() -> None:
     """Who waits gets a home when there is room."""
     site = Site(TWO)
     site.online("0-7")
@@ -128,7 +131,7 @@ def later():
 
 
 @case
-def shown():
+def shown() -> None:
     """numarun-dry-run has the same homes."""
     site = Site(TWO)
     memory(site, GIB, 2 * GIB)
@@ -147,7 +150,7 @@ def shown():
     check("without homes", "home" in out, False)
 
 
-def far_site():
+def far_site() -> Site:
     """Two containers that are far from home, since a third one has the near CPUs; one of the two is never to be moved."""
     site = Site(TWO)
     site.online("0-7")
@@ -158,7 +161,7 @@ def far_site():
 
 
 @case
-def staying():
+def staying() -> None:
     """One with the annotation is never moved, though it would be nearer elsewhere; where its CPU goes it gets another one."""
     site = far_site()
     agent = Open(site)
@@ -182,7 +185,7 @@ def staying():
 
 
 @case
-def staying_over_restarts():
+def staying_over_restarts() -> None:
     site = far_site()
     check("both are far", (site.run()[0], site.has("db", "other")), (0, ["4-5", "6-7"]))
     site.go("near")

@@ -1,42 +1,51 @@
 """Tries numarun-hook: a runtime tells of a container by it, and it waits until the agent has answered."""
 
+from __future__ import annotations
+
 import json
 import os
 import signal
 import subprocess
 import time
+from typing import Any
 
-from sites import Open, Site
-from trial import TOP, case, check, command, refuses, told, words_and_help
+from sites import PATIENCE, Open, Site, Wanted
+from trial import TOP, Told, case, check, command, refuses, told, words_and_help
 
 
-def state_of(site, name, **more):
+Hook = subprocess.Popen[bytes]
+WAIT = ("--wait", f"{PATIENCE:g}")
+
+
+def state_of(site: Site, name: str, **more: object) -> str:
     return json.dumps({"ociVersion": "1.0.2", "id": name, "status": "created", "bundle": site.at("bundles", name), **more})
 
 
-def prepared(site, name, *more, **section):
+def prepared(site: Site, name: str, cpus: Wanted = 0, **more: Any) -> None:
     """A bundle that nobody was told of."""
-    site.come(name, *more, **section)
+    site.come(name, cpus, **more)
     os.makedirs(site.at("bundles"), exist_ok=True)
     os.rename(site.at("g", name), site.at("bundles", name))
 
 
-def begun(site, name, *words):
+def begun(site: Site, name: str, *words: str) -> Hook:
     """The hook, which waits."""
     process = subprocess.Popen(command("numarun-hook", site.at("told"), "--agent", site.at("work/hooks"), *words), cwd=TOP,
                                stdin=subprocess.PIPE, stdout=subprocess.PIPE, stderr=subprocess.PIPE)
+    assert process.stdin
     process.stdin.write(state_of(site, name).encode())
     process.stdin.close()
     return process
 
 
-def ended(process):
+def ended(process: Hook) -> Told:
+    assert process.stdout and process.stderr
     out, err = process.stdout.read().decode(), process.stderr.read().decode()
     return process.wait(), out, err
 
 
 @case
-def hooked():
+def hooked() -> None:
     """A runtime's hook tells of a container, in the group that its process is in, and that it is gone."""
     site = Site()
     site.come("a", 2, group=False)
@@ -66,7 +75,7 @@ def hooked():
 
 
 @case
-def answered():
+def answered() -> None:
     """A container begins when it has its CPUs, or when it is told that there is no place."""
     site = Site()
     agent = Open(site, "--watch", site.at("told"), "--pause", "600")
@@ -74,39 +83,39 @@ def answered():
         time.sleep(0.05)
     prepared(site, "a", 2)
     began = time.monotonic()
-    check("its CPUs", ended(begun(site, "a", "--wait", "120")), (0, "pinned a 1-2\n", ""))
-    check("at once, and not at the next look", (time.monotonic() - began < 300, site.has("a")), (True, ["1-2"]))
+    check("its CPUs", ended(begun(site, "a", *WAIT)), (0, "pinned a 1-2\n", ""))
+    check("at once, and not at the next look", (time.monotonic() - began < PATIENCE, site.has("a")), (True, ["1-2"]))
     prepared(site, "s")
-    check("one that asks for none", ended(begun(site, "s", "--wait", "120"))[1], "shared s 0,3-7\n")
+    check("one that asks for none", ended(begun(site, "s", *WAIT))[1], "shared s 0,3-7\n")
     prepared(site, "big", 7)
-    status, out, err = ended(begun(site, "big", "--wait", "120"))
+    status, out, err = ended(begun(site, "big", *WAIT))
     check("no place", (status, out, err), (0, "no place waits big: short demand 9 allowed 1-7: it runs on the pool until there is room\n", ""))
     check("it is told", os.path.isdir(site.at("told/big")), True)
     prepared(site, "must", 7)
-    status, out, err = ended(begun(site, "must", "--wait", "120", "--need-place"))
+    status, out, err = ended(begun(site, "must", *WAIT, "--need-place"))
     check("no place for one that needs it", (status, out, err.startswith("numarun-hook: no place waits must"), os.path.exists(site.at("told/must"))), (1, "", True, False))
     prepared(site, "bad", linux={"resources": {"cpu": {"mems": "7"}}})
-    status, out, err = ended(begun(site, "bad", "--wait", "120"))
+    status, out, err = ended(begun(site, "bad", *WAIT))
     check("refused", (status, out, err), (1, "", f"numarun-hook: refused E65 NoSuchNode 7: bad {site.at('told/bad')}: it runs on the pool\n"))
     check("it ends", agent.end()[0], 1)
 
 
 @case
-def in_time():
+def in_time() -> None:
     """Where nobody answers, the container is not told of, and its runtime does not start it; an agent that comes meanwhile answers."""
     site = Site()
     prepared(site, "a", 2)
     status, out, err = ended(begun(site, "a", "--wait", "0.5"))
     says = f"numarun-hook: {site.at('work/hooks')}: the agent has not answered of a in 0.5 s\n"
     check("no agent", (status, out, err, os.listdir(site.at("told"))), (1, "", says, []))
-    hook = begun(site, "a", "--wait", "120")
+    hook = begun(site, "a", *WAIT)
     time.sleep(0.3)
     agent = Open(site, "--watch", site.at("told"))
     check("one that comes", ended(hook), (0, "pinned a 1-2\n", ""))
     agent.process.kill()
     agent.process.wait()
     prepared(site, "b", 1)
-    hook = begun(site, "b", "--wait", "120")
+    hook = begun(site, "b", *WAIT)
     time.sleep(0.3)
     agent = Open(site, "--watch", site.at("told"))
     check("and one that comes back", ended(hook), (0, "pinned b 3\n", ""))
@@ -114,25 +123,25 @@ def in_time():
 
 
 @case
-def far_away():
+def far_away() -> None:
     """A folder of the agent's with a longer name than a socket may have."""
     site = Site()
     prepared(site, "a", 2)
     work = site.at("w" * 120)
     agent = Open(site, "--watch", site.at("told"), "--work", work)
-    check("a long name", ended(begun(site, "a", "--agent", f"{work}/hooks", "--wait", "120")), (0, "pinned a 1-2\n", ""))
+    check("a long name", ended(begun(site, "a", "--agent", f"{work}/hooks", *WAIT)), (0, "pinned a 1-2\n", ""))
     agent.end(signal.SIGTERM)
 
 
 @case
-def status():
+def status() -> None:
     """What the running agent knows: a table, and JSON."""
     site = Site()
     for name, cpus in (("a", 2), ("s", 0), ("big", 7)):
         site.come(name, cpus)
     agent = Open(site)
     agent.until("done")
-    found, until = 1, time.monotonic() + 120
+    found, until = 1, time.monotonic() + PATIENCE
     while found and time.monotonic() < until:  # an agent that has much to do may not answer in time
         found, out, err = told("numarun-agent", "status", "--agent", site.at("work/hooks"))
     lines = [line.split() for line in out.splitlines()]

@@ -1,9 +1,12 @@
 """Compares the machine files that numarun-describe makes of hwloc's recorded machines with those that stand for them."""
 
+from __future__ import annotations
+
 import json
 import os
 import shutil
 import subprocess
+from typing import List, Sequence, Tuple
 
 from trial import TOP, bad_files, bad_output, case, check, piped, refuses, scratch, text_of, told, words_and_help
 
@@ -19,7 +22,7 @@ NODE = ('<topology version="2.0"><object type="Machine" os_index="0" cpuset="0x{
 LAST = "80000000" + ",0x0" * 127
 
 
-def recorded(name, *words, said=(), **expected):
+def recorded(name: str, *words: str, said: Sequence[str] = (), **expected: object) -> None:
     """The machine file of a recorded machine has these members; each line on standard error says one of these, in their order."""
     status, out, err = told("numarun-describe hwloc", os.path.join(MACHINES, name + ".xml"), *words)
     found = json.loads(out) if status == 0 else {}
@@ -29,7 +32,7 @@ def recorded(name, *words, said=(), **expected):
 
 
 @case
-def into_a_file():
+def into_a_file() -> None:
     """What is there is replaced by a machine file, or stays as it was where that is refused."""
     path, words = scratch("machine.json"), ("numarun-describe hwloc", TWO_SOCKET, "--reserved")
     expected = told(*words, "0,16")[1]
@@ -39,7 +42,7 @@ def into_a_file():
     refuses(*words, "0", "--output", scratch("none", "machine.json"), says="none/machine.json: No such file or directory")
 
 
-def same_as_by_hand(name, reserved):
+def same_as_by_hand(name: str, reserved: str) -> None:
     told_here = told("numarun-describe hwloc", os.path.join(MACHINES, name + ".xml"), "--reserved", reserved)[1]
     expected = json.load(open(os.path.join(TOP, "examples", "machines", name + ".json")))
     del expected["about"]
@@ -47,7 +50,7 @@ def same_as_by_hand(name, reserved):
     check(f"{name}, read off by hand", json.loads(told_here or "{}"), {**expected, "offline": ""})
 
 
-def with_cores(*cores):
+def with_cores(*cores: Sequence[int]) -> str:
     """What hwloc tells of two-socket with these cores in it."""
     words = [[sum(1 << cpu % 32 for cpu in core if cpu // 32 == word) for word in (1, 0)] for core in cores]
     entries = "".join(f'<object type="Core" os_index="{k}" complete_cpuset="0x{high:x},0x{low:x}"/>' for k, (high, low) in enumerate(words))
@@ -55,14 +58,14 @@ def with_cores(*cores):
 
 
 @case
-def of_cores():
-    pairs = [(k, k + 16) for k in range(16)]
+def of_cores() -> None:
+    pairs: List[Sequence[int]] = [(k, k + 16) for k in range(16)]
     expected = json.load(open(os.path.join(TOP, "examples", "machines", "two-socket.json")))
     del expected["about"]
-    for words in ([], ["--reserved", "16,0"]):
+    for words in ((), ("--reserved", "16,0")):
         status, out, err = told("numarun-describe hwloc", "--cores", *words, text=with_cores(*reversed(pairs)))
         check(f"cores {words}", (status, json.loads(out or "{}"), err), (0, {**expected, "offline": ""}, ""))
-    for cores, words, says in [
+    table: Sequence[Tuple[List[Sequence[int]], Tuple[str, ...], str]] = [
         (pairs[:5] + [(5,)], (), "--cores: cores have different numbers of CPUs: 0,16 and 5"),
         (pairs[:5], (), "--cores: no core is told of the CPUs 5-15,21-31, as of those that are offline"),
         ([], (), "--cores: no core is told of the CPUs 0-31"),
@@ -70,12 +73,13 @@ def of_cores():
         (pairs[:5] + [(4, 20)], (), "--cores: the core 4,20 has CPUs of another one"),
         (pairs + [(15, 31, 32)], (), "--cores: the core 15,31-32 has CPUs of another one"),
         (pairs, ("--reserved", "0-1,16"), "--cores: the core 1,17 is reserved in part"),
-    ]:
-        refuses("numarun-describe hwloc", "--cores", *words, text=with_cores(*cores), says=says)
+    ]
+    for cores, more, says in table:
+        refuses("numarun-describe hwloc", "--cores", *more, text=with_cores(*cores), says=says)
 
 
 @case
-def same_as_of_this_machine():
+def same_as_of_this_machine() -> None:
     if not shutil.which("lstopo"):
         print("hwloc: passed over, as there is no lstopo: what it tells of this machine")
         return
@@ -89,13 +93,13 @@ FROM_ITSELF = ["node 2 is at 17 from itself", "node 16 is at 14 from itself", "l
 
 
 @case
-def read_off_by_hand():
+def read_off_by_hand() -> None:
     same_as_by_hand("two-socket", "0,16")
     same_as_by_hand("two-nodes-a-socket", "0-1,64-65")
 
 
 @case
-def recorded_machines():
+def recorded_machines() -> None:
     recorded("offline", said=["which `lstopo --disallowed` tells apart: CPUs 2,5,7-11,13-14"], nodes=["0-15"], distances=[[10]], reserved="0", offline="2,5,7-11,13-14")
     recorded("memory-and-a-hole", "--renumber", said=FROM_ITSELF,
              nodes=["0-3", "16-19", ""], distances=[[10, 17, 17], [17, 10, 10], [14, 14, 10]], reserved="0", offline="")
@@ -106,7 +110,7 @@ def recorded_machines():
 
 
 @case
-def made_machines():
+def made_machines() -> None:
     status, out, err = told("numarun-describe hwloc", text=NODE.format(online=LAST, all=LAST, node=127))
     check("the last node and CPU", (status, json.loads(out or "{}").get("nodes")), (0, [""] * 127 + ["4095"]))
 
@@ -120,7 +124,7 @@ def made_machines():
 
 
 @case
-def refusals():
+def refusals() -> None:
     words_and_help("numarun-describe hwloc", "lstopo --disallowed --of xml | operators/numarun-describe hwloc")
     bad_files("numarun-describe hwloc", [])
     bad_output("numarun-describe hwloc", TWO_SOCKET)

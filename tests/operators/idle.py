@@ -14,13 +14,13 @@ from sites import Open, Site
 from numarun_host import agent as agents
 from numarun_host.doing import Ending
 from numarun_host.machine import Machine
-from trial import case, check
+from trial import SLOWER, case, check
 
 COUNT = 200
 CALLS = 92           # of a look, for each container, at most; and those beside
 CALLS_BESIDE = 600
 SECONDS = 0.010      # of processor, for a look, on a machine that does nothing else
-FACTOR = 10          # what a busy machine may take more: 32 ms were seen under a load of 44
+FACTOR = 2 * SLOWER  # what may come of other cases beside it
 MEGABYTES = 25
 LOOKS = 40
 

@@ -1,13 +1,16 @@
 """Tries install.sh into a temporary folder: what is there, that each script finds the rest of it, that installing again changes
 nothing, and that what is taken away is all of it and nothing else."""
 
+from __future__ import annotations
+
 import os
 import re
 import shlex
 import shutil
 import subprocess
+from typing import Dict, List, Optional, Sequence, Tuple, Union
 
-from trial import OPERATORS, PROGRAM, TOP, case, check, refuses, scratch, told
+from trial import OPERATORS, PROGRAM, TOP, Told, case, check, refuses, scratch, told
 
 PREFIX = scratch("installed here")
 MACHINE = os.path.join(TOP, "examples", "machines", "two-socket.json")
@@ -17,33 +20,35 @@ OF_THE_HOST, AT_A_DESK = ["agent", "hook", "runc"], ["describe", "draw-plan", "d
 NAMES = sorted(OF_THE_HOST + AT_A_DESK)
 HERE = {**os.environ, "PROGRAM": PROGRAM}
 
+Standing = Dict[str, Optional[Tuple[Union[str, bytes], int]]]  # by its path what a file has in it, and its mode
 
-def standing():
+
+def standing() -> Standing:
     """All files and folders below the prefix, with what the files have in them."""
-    found = {}
+    found: Standing = {}
     for folder, folders, files in os.walk(PREFIX):
         for name in folders:
             found[os.path.relpath(os.path.join(folder, name), PREFIX) + "/"] = None
         for name in files:
             path = os.path.join(folder, name)
-            found[os.path.relpath(path, PREFIX)] = (os.readlink(path) if os.path.islink(path) else open(path, "rb").read(), os.lstat(path).st_mode)
+            content: Union[str, bytes] = os.readlink(path) if os.path.islink(path) else open(path, "rb").read()
+            found[os.path.relpath(path, PREFIX)] = content, os.lstat(path).st_mode
     return found
 
 
-def installed(name, *words, text="", folder="/", **more):
+def installed(name: str, *words: str, text: str = "", folder: str = "/") -> Told:
     """What an installed script says, from another folder, with nothing of the checkout in its environment."""
     plain = {"PATH": os.environ["PATH"], "HOME": "/nowhere"}
-    words = [os.path.join(PREFIX, "bin", name), *words]
-    ran = subprocess.run(words, input=text.encode(), capture_output=True, cwd=folder, env=plain, timeout=100, **more)
+    ran = subprocess.run([os.path.join(PREFIX, "bin", name), *words], input=text.encode(), capture_output=True, cwd=folder, env=plain, timeout=100)
     return ran.returncode, ran.stdout.decode(), ran.stderr.decode()
 
 
-def taken_away(name, left):
+def taken_away(name: str, left: Sequence[str]) -> None:
     check(name, told("install.sh", "--uninstall", PREFIX)[0], 0)
     check(f"{name}: what is left", sorted(standing()), left)
 
 
-def install():
+def install() -> List[str]:
     """Installs into a folder that has something of somebody else's already; what was there before."""
     os.makedirs(os.path.join(PREFIX, "share", "man"))
     os.makedirs(os.path.join(PREFIX, "bin"))
@@ -56,7 +61,7 @@ def install():
 
 
 @case
-def what_is_there():
+def what_is_there() -> None:
     before = install()
     first = standing()
     check("the commands", sorted(name for name in os.listdir(os.path.join(PREFIX, "bin"))), ["numarun"] + [f"numarun-{name}" for name in NAMES] + ["other"])
@@ -74,7 +79,7 @@ def what_is_there():
 
 
 @case
-def what_it_says():
+def what_it_says() -> None:
     """The installed scripts, from another folder."""
     install()
     for name in NAMES:
@@ -83,8 +88,8 @@ def what_it_says():
     check("numarun", installed("numarun", "list", "3,1-2"), (0, "1-3\n", ""))
     DOC = os.path.join(PREFIX, "share", "doc", "numarun")
     told_paths = set(re.findall(r"\b(?:docs|examples)/[\w./-]*\w", open(os.path.join(TOP, "docs", "numarun.1")).read()))
-    for words in ([], ["check"], ["list"], ["slit"], ["run"], ["solve"]):
-        told_paths.update(re.findall(r"\b(?:docs|examples)/[\w./-]*\w", installed("numarun", "help", *words)[1]))
+    for command in ("", "check", "list", "slit", "run", "solve"):
+        told_paths.update(re.findall(r"\b(?:docs|examples)/[\w./-]*\w", installed("numarun", "help", *command.split())[1]))
     check("what the help and the man page name is installed", sorted(path for path in told_paths if not os.path.exists(os.path.join(DOC, path))), [])
     check("paths that they name", len(told_paths) >= 5, True)
     status, out, err = installed("numarun", "run", "examples/machines/two-socket.json", text=open(os.path.join(DOC, "examples/scripts/plans")).read(), folder=DOC)
@@ -98,7 +103,7 @@ def what_it_says():
 
 
 @case
-def over_an_older_one():
+def over_an_older_one() -> None:
     before = install()
     moved = PREFIX + " after all"
     os.rename(PREFIX, moved)
@@ -115,7 +120,7 @@ def over_an_older_one():
 
 
 @case
-def of_somebody_else():
+def of_somebody_else() -> None:
     """What somebody else put there stays, and a list that names other files is refused."""
     before = install()
     os.makedirs(os.path.join(PREFIX, "lib", "numarun", "numarun_host", "__pycache__"), exist_ok=True)
@@ -129,7 +134,7 @@ def of_somebody_else():
 
 
 @case
-def named_by_a_runtime():
+def named_by_a_runtime() -> None:
     """While a runtime's configuration names a program of it, it is not taken away: no container would start then."""
     if not shutil.which("unshare") or subprocess.run(["unshare", "-m", "true"], capture_output=True).returncode:
         print("a runtime that names it: passed over, as there is none: namespaces of mounts")
@@ -144,7 +149,7 @@ def named_by_a_runtime():
 
 
 @case
-def refusals():
+def refusals() -> None:
     refuses("install.sh", says="usage", status=2)
     refuses("install.sh", "a", "b", says="usage", status=2)
     refuses("install.sh", "--no-such-word", says="no such option", status=2)

@@ -15,7 +15,7 @@ from datetime import datetime, timezone
 from typing import List
 
 from sites import IN_FOLDERS, Site
-from trial import PROGRAM, TOP, case, check, long_case, scratch, told
+from trial import PROGRAM, SLOWER, TOP, case, check, long_case, scratch, told
 
 HERE = {**os.environ, "PROGRAM": PROGRAM}
 TOOLS = ("dpkg-buildpackage", "dh", "dh_python3", "unshare", "chroot")
@@ -79,7 +79,7 @@ def in_a_layer() -> None:
     with open(site.at("words"), "w") as file:
         file.write(f"export GROUPS_LIBRARY={shlex.quote(os.environ['GROUPS_LIBRARY'])} PROGRAM={shlex.quote(PROGRAM)}\nexec {shlex.join(words)}\n")
     script = os.path.join(os.path.dirname(os.path.abspath(__file__)), "layer.sh")
-    ran = subprocess.run([*APART, "sh", script, site.folder, first, later(first)], capture_output=True, text=True, timeout=1200)
+    ran = subprocess.run([*APART, "sh", script, site.folder, first, later(first)], capture_output=True, text=True, timeout=300 * SLOWER)
     check("in a layer", ([line.rstrip() for line in ran.stdout.splitlines()], ran.stderr), (EXPECTED, ""))
 
 

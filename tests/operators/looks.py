@@ -1,7 +1,10 @@
 """Tries what quick-look.sh refuses, that it runs the program on the machine and the bundles that it is given, and that it
 prints each command before its answer."""
 
+from __future__ import annotations
+
 import os
+from typing import Dict, Tuple
 
 from trial import PROGRAM, TOP, case, check, piped, refuses, scratch, told, written
 
@@ -20,7 +23,7 @@ HARD = [("list", "end"), ("certificate", "refused E101 NoAnswer"), ("\t ", None)
         ("step", "more"), ("begin", "refused E90 Busy"), ("step", "done"), ("phase", "settled")]
 
 
-def kit():
+def kit() -> Dict[str, str]:
     """An environment in which rt is the stand-in."""
     os.makedirs(folder, exist_ok=True)
     if not os.path.exists(os.path.join(folder, "rt")):
@@ -28,13 +31,13 @@ def kit():
     return {**os.environ, "PATH": f"{folder}:{os.environ['PATH']}"}
 
 
-def told_of(script):
+def told_of(script: str) -> Tuple[int, str, bool]:
     """What is printed for a script, and whether it says that nothing is proved."""
     status, out, err = told("quick-look.sh", MACHINE, script, env=kit())
     return status, out, "nothing is proved" in err
 
 
-def together(name):
+def together(name: str) -> str:
     """The commands of a script of examples/, each before its answer, from the files that stand there."""
     answers, out = open(os.path.join(SCRIPTS, f"{name}.answers")).read().splitlines(), []
     for line in open(os.path.join(SCRIPTS, name)).read().splitlines():
@@ -45,7 +48,7 @@ def together(name):
 
 
 @case
-def worked_scripts():
+def worked_scripts() -> None:
     check("a quick look", told_of(os.path.join(SCRIPTS, "a-cpu-goes")), (0, together("a-cpu-goes"), True))
     data = "--data examples/bundles/{0}/config.json={1}/examples/bundles/{0}/config.json"
     words = [f"{TOP}/crates/numarun try --data machine.json={TOP}/{MACHINE}"]
@@ -56,7 +59,7 @@ def worked_scripts():
 
 
 @case
-def odd_scripts():
+def odd_scripts() -> None:
     """Hard lines, none, and no script that is named."""
     kit()
     hard = os.path.join(folder, "hard")
@@ -69,13 +72,13 @@ def odd_scripts():
 
 
 @case
-def a_picture():
+def a_picture() -> None:
     drawn = open(os.path.join(TOP, "docs", "two-socket.svg")).read()
     check("a picture of what it prints", told("numarun-draw-plan", "--before", MACHINE, text=together("before-and-after"))[:2], (0, drawn))
 
 
 @case
-def a_program_that_fails():
+def a_program_that_fails() -> None:
     kit()
     with open(os.path.join(folder, "rt"), "w") as file:
         file.write("#!/bin/sh\necho pid 2\nexit 3\n")
@@ -83,7 +86,7 @@ def a_program_that_fails():
 
 
 @case
-def refusals():
+def refusals() -> None:
     status, out, err = told("quick-look.sh", "--help")
     check("quick-look.sh --help", (status, "Example: examples/quick-look.sh" in out, err), (0, True, ""))
     refuses("quick-look.sh", "no-such-machine", says="no-such-machine: no such file", env=kit())

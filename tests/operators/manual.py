@@ -1,6 +1,8 @@
 """Compares the man page with the help that the program prints: its words are the help's. Those of the scripts name the options that there are, and
 all of them, but for the agent's, which names those that one sets most. mandoc looks at them, where it is."""
 
+from __future__ import annotations
+
 import os
 import re
 import shutil
@@ -15,11 +17,11 @@ PAGES = [os.path.join(OPERATORS, name) for name in sorted(os.listdir(OPERATORS))
 HELPS = {"numarun-describe": ("numarun-describe host", "numarun-describe hwloc")}  # those that are asked for each of their subcommands
 
 
-def helped(*words):
+def helped(*words: str) -> str:
     return subprocess.run([PROGRAM, *words], capture_output=True, check=True).stdout.decode()
 
 
-def plain(text):
+def plain(text: str) -> str:
     """The words of the page without its macros and marks, one blank between."""
     lines = []
     for line in text.splitlines():
@@ -28,12 +30,12 @@ def plain(text):
     return squeezed(" ".join(lines))
 
 
-def squeezed(text):
+def squeezed(text: str) -> str:
     return " ".join(re.sub(r"[`\\.,;]", " ", text).split())
 
 
 @case
-def of_the_program():
+def of_the_program() -> None:
     page = plain(open(PAGE).read())
     told = helped("--help")
     abouts = re.findall(r"^ +(?:check|list|slit|run|solve) +(.+)$", told, re.M)
@@ -52,7 +54,7 @@ def of_the_program():
 
 
 @case
-def of_the_scripts():
+def of_the_scripts() -> None:
     for path in PAGES:
         name = os.path.basename(path)[:-2]
         helps = "\n".join(said(script, "--help")[1] for script in HELPS.get(name, (name,)))
@@ -64,7 +66,7 @@ def of_the_scripts():
 
 
 @case
-def of_the_agent():
+def of_the_agent() -> None:
     """Its help has its options in groups, what a container can say of itself, and each default."""
     text = " ".join(said("numarun-agent", "--help")[1].split())
     for words in ("what it works with:", "containers:", "the rest of the machine:", "what it leaves to read:", *(f"NUMARUN_{word}" for word in ("PIN", "LEAST", "STAY", "NEAR"))):
@@ -75,7 +77,7 @@ def of_the_agent():
 
 
 @case
-def by_mandoc():
+def by_mandoc() -> None:
     if shutil.which("mandoc"):
         found = subprocess.run(["mandoc", "-T", "lint", PAGE], capture_output=True)
         check("mandoc -T lint", (found.returncode, found.stdout.decode()), (0, ""))

@@ -1,44 +1,50 @@
 """Tries benches/moves: what is counted on changes by hand, the containers of the made machine, and a small whole run."""
 
+from __future__ import annotations
+
 import importlib
 import os
 import random
 import subprocess
 import sys
+from typing import Dict, List, Optional, Set, Tuple
 
-from trial import PROGRAM, TOP, case, check, scratch
+from trial import PROGRAM, TOP, Told, case, check, scratch
 
 FOLDER = os.path.join(TOP, "benches", "moves")
 sys.path.insert(0, FOLDER)
 measure = importlib.import_module("measure")
 SCRIPT = os.path.join(FOLDER, "measure.py")
 
+Plan = Optional[Dict[str, Set[int]]]
+
 
 class Answers:
     """A program that answers these plans."""
 
-    def __init__(self, *plans):
-        self.plans, self.lines = list(plans), []
+    def __init__(self, *plans: Plan) -> None:
+        self.plans: List[Plan] = list(plans)
+        self.lines: List[str] = []
 
-    def plan(self):
+    def plan(self) -> Plan:
         return self.plans.pop(0)
 
-    def told(self, line):
+    def told(self, line: str) -> None:
         self.lines.append(line)
 
-    def create(self, name, container):
+    def create(self, name: str, container: Asks) -> None:
         self.lines.append(f"create {name} {container.count}")
 
-    def remove(self, name):
+    def remove(self, name: str) -> None:
         self.lines.append(f"remove {name}")
 
 
 class Asks:
-    def __init__(self, count):
+    def __init__(self, count: int) -> None:
         self.count = count
 
 
-def counted(*plans):
+def counted(*plans: Plan) -> Tuple[List[List[int]], List[str], List[str]]:
     """What is counted where c0, which has two CPUs, goes, and one comes; and the lines that were asked."""
     machine = measure.Machine(measure.machine_file("two-socket"))
     seed = next(seed for seed in range(99) if random.Random(seed).randrange(2) == 0)
@@ -48,7 +54,7 @@ def counted(*plans):
 
 
 @case
-def by_hand():
+def by_hand() -> None:
     first, alone = {"c0": {1, 2}, "c1": {3}}, {"c1": {1}}
     both, other = {"c1": {1}, "new": {2, 3}}, {"c1": {4}, "new": {3, 5}}
     hands, names, lines = counted(first, alone, both, other, both)
@@ -62,7 +68,7 @@ def by_hand():
 
 
 @case
-def made():
+def made() -> None:
     path = scratch("made.json")
     measure.write_made(path)
     machine = measure.Machine(path)
@@ -72,19 +78,19 @@ def made():
         check(f"full to {part}", (len(containers), sum(one.count for one in containers)), (255, asked))
 
 
-def ran(*words):
+def ran(*words: str) -> Told:
     done = subprocess.run([sys.executable, "-B", SCRIPT, *words], capture_output=True, timeout=100)
     return done.returncode, done.stdout.decode(), done.stderr.decode()
 
 
 @case
-def small():
+def small() -> None:
     status, out, err = ran(PROGRAM, "1")
     check("a small run", (status, len(out.splitlines()), err), (0, 15, ""))
 
 
 @case
-def words():
+def words() -> None:
     here = os.getcwd()
     check("no such program", ran("no-such-program")[::2], (1, f"measure.py: {here}/no-such-program: No such file or directory\n"))
     for words in ((), ("x", "0"), ("x", "y"), ("x", "1", "2")):

@@ -14,7 +14,7 @@ import time
 from typing import Callable, Iterator, List, Sequence, Set, Tuple
 
 from sites import Open, Site, config_of, of, section_of, untimed
-from trial import EXAMPLES, case, check, command, long_case, scratch, told, written
+from trial import EXAMPLES, SECONDS, case, check, command, long_case, scratch, told, written
 from numarun_host import answers, explain
 from numarun_host.hooks import near
 from numarun_host.machine import Machine
@@ -290,7 +290,7 @@ def lines_of_input() -> None:
         odd.append(b" ".join([kind, *more]).replace(b"\n", b""))
     good = f"created good {site.at('g/good')}\ncreated other {site.at('g/other')}\n".encode()
     words = command("numarun-agent", *site.words("--listen"))
-    ran = subprocess.run(words, input=good + b"\n".join(odd) + b"\n" + b"x" * 100000 + b"\n", capture_output=True, timeout=300, check=False)
+    ran = subprocess.run(words, input=good + b"\n".join(odd) + b"\n" + b"x" * 100000 + b"\n", capture_output=True, timeout=SECONDS, check=False)
     lines = untimed(ran.stdout.decode())
     check("nothing on standard error", (ran.returncode, ran.stderr), (1, b""))
     goes_on(site, lines)

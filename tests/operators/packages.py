@@ -1,6 +1,8 @@
 """Tries the unit and the package: that nothing ends the agent for good on a fresh boot, that the page's commands come to an agent that
 starts, and a package that is made (layers.py installs it). No service manager is started."""
 
+from __future__ import annotations
+
 import configparser
 import json
 import os
@@ -10,35 +12,42 @@ import shutil
 import socket
 import subprocess
 import time
+from typing import List
 
-from sites import IN_FOLDERS, Open, Site
+from sites import IN_FOLDERS, PATIENCE, Open, Site
 from trial import OPERATORS, PROGRAM, case, check, long_case, refuses, scratch, told
 
 HERE = {**os.environ, "PROGRAM": PROGRAM}
 WORDS = ["--online", "/sys/devices/system/cpu/online", "--program", IN_FOLDERS, "--pause", "0.1"]
 
 
-def unit_of(prefix):
-    unit = configparser.ConfigParser(interpolation=None, strict=False)
-    unit.optionxform = str
+class Unit(configparser.ConfigParser):
+    """A unit, whose options are as they are written."""
+
+    def optionxform(self, optionstr: str) -> str:
+        return optionstr
+
+
+def unit_of(prefix: str) -> configparser.ConfigParser:
+    unit = Unit(interpolation=None, strict=False)
     unit.read(os.path.join(prefix, "lib", "systemd", "system", "numarun-agent.service"))
     return unit
 
 
-def installed(name):
+def installed(name: str) -> str:
     prefix = scratch(name)
     check("installed", told("install.sh", prefix, env=HERE)[0], 0)
     return prefix
 
 
-def begun(unit, options, **paths):
+def begun(unit: configparser.ConfigParser, options: str, **paths: str) -> List[str]:
     """The words of ExecStart as systemd makes them, with other paths in place of the system's."""
     line = unit["Service"]["ExecStart"].replace("$OPTIONS", options).replace("%%", "%")
     return [paths.get(word, word) for word in shlex.split(line)]
 
 
 @case
-def goes_on():
+def goes_on() -> None:
     """Whatever ends it, it is started again; its program is named by its path, and OPTIONS adds to what is told."""
     prefix = installed("of one's own")
     unit = unit_of(prefix)
@@ -68,7 +77,7 @@ def goes_on():
     check("and given back", (status, site.file("system.slice"), site.has("a")), (0, "", [""]))
 
 
-def until_enabled():
+def until_enabled() -> str:
     """What the first page says to type from the machine file until the unit is enabled, without its comments and without the look before."""
     blocks = re.findall(r"```sh\n(.*?)```", open(os.path.join(OPERATORS, "README.md")).read(), re.S)
     first, last = (next(k for k, block in enumerate(blocks) if word in block) for word in ("numarun-describe host", "systemctl enable"))
@@ -76,7 +85,7 @@ def until_enabled():
 
 
 @case
-def by_the_page():
+def by_the_page() -> None:
     """What the page says to type makes a machine file with cores, and an agent that starts by it before any container ran."""
     prefix, etc, bin = installed("prefix"), scratch("etc"), scratch("bin")
     block = until_enabled()
@@ -101,13 +110,13 @@ def by_the_page():
 
 
 @case
-def notified():
+def notified() -> None:
     """systemd is told that it is ready behind the first look, that it works, and that it ends."""
     site = Site()
     path = site.at("notify")
     with socket.socket(socket.AF_UNIX, socket.SOCK_DGRAM) as door:
         door.bind(path)
-        door.settimeout(300)
+        door.settimeout(PATIENCE)
         os.environ.update(NOTIFY_SOCKET=path, WATCHDOG_USEC="1000000")
         agent = Open(site, "--pause", "3600")
         heard = [door.recv(100), door.recv(100)]
@@ -119,7 +128,7 @@ def notified():
 
 
 @case
-def before_any_container():
+def before_any_container() -> None:
     """The watched folder comes with the first container."""
     site = Site()
     os.rename(site.at("g"), site.at("later"))
@@ -133,7 +142,7 @@ def before_any_container():
 
 
 @long_case
-def package():
+def package() -> None:
     if not shutil.which("dh_python3"):
         print("the package: passed over, as there is none: dh_python3")
         return

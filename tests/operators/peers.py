@@ -1,13 +1,16 @@
 """Tries benches/peers: the plainer ways on cases by hand, whole cores, that nobody beats numarun, and a small whole run."""
 
+from __future__ import annotations
+
 import importlib
 import os
 import random
 import re
 import subprocess
 import sys
+from typing import Any, Iterable
 
-from trial import PROGRAM, TOP, case, check, scratch
+from trial import PROGRAM, TOP, Told, case, check, scratch
 
 FOLDER = os.path.join(TOP, "benches", "peers")
 sys.path.insert(0, FOLDER)
@@ -18,13 +21,13 @@ SCRIPT = os.path.join(FOLDER, "compare.py")
 class Asks:
     """A container that asks for so many CPUs, with memory on node 0 or on these."""
 
-    def __init__(self, machine, count, allowed, homes=(0,)):
+    def __init__(self, machine: Any, count: int, allowed: Iterable[int], homes: Iterable[int] = (0,)) -> None:
         self.count, self.allowed, self.homes = count, set(allowed), set(homes)
         self.weights = {cpu: machine.weight(self.homes, cpu) for cpu in self.allowed}
 
 
 @case
-def by_hand():
+def by_hand() -> None:
     machine = compare.Machine(os.path.join(TOP, "examples", "machines", "two-socket.json"))
     free = machine.present - machine.reserved
     check("nearest", compare.nearest(Asks(machine, 3, range(6, 18)), free, machine), {6, 7, 17})
@@ -49,7 +52,7 @@ def by_hand():
 
 
 @case
-def cores():
+def cores() -> None:
     """The machine files that are written, by hand: each CPU a core, or siblings together; and what a plan of half a core comes to."""
     os.chdir(scratch())
     plain = compare.Cores(compare.Machine(compare.written("two-socket")))
@@ -72,28 +75,28 @@ def cores():
 
 
 @case
-def lists():
+def lists() -> None:
     """By hand: a socket of two nodes, and what a container has to itself is in no later list."""
     machine = compare.Machine(os.path.join(TOP, "examples", "machines", "two-nodes-a-socket.json"))
     for seed in range(40):
-        mixed, claimed = compare.mix(machine, random.Random(seed), 0.9, 2), set()
+        mixed, claimed = compare.mix(machine, random.Random(seed), 0.9, 2), set[int]()
         for one in (one for one in mixed if one.named):
             nodes = [cpus - machine.reserved for cpus in machine.nodes]
-            homes = set().union(*(nodes[home] for home in one.homes))
-            sockets = set().union(*(nodes[home // 2 * 2] | nodes[home // 2 * 2 + 1] for home in one.homes))
+            homes = set[int]().union(*(nodes[home] for home in one.homes))
+            sockets = set[int]().union(*(nodes[home // 2 * 2] | nodes[home // 2 * 2 + 1] for home in one.homes))
             whole = one.allowed in (homes - claimed, sockets - claimed)
             check(f"list of mix {seed}", whole or (len(one.allowed) == one.count and one.allowed <= sockets - claimed), True)
-            claimed |= set() if whole else one.allowed
+            claimed |= set[int]() if whole else one.allowed
         check(f"mix {seed}", sum(one.count for one in mixed), int(0.9 * len(machine.present - machine.reserved)))
 
 
-def ran(*words):
+def ran(*words: str) -> Told:
     done = subprocess.run([sys.executable, "-B", SCRIPT, *words], capture_output=True, timeout=100)
     return done.returncode, done.stdout.decode(), done.stderr.decode()
 
 
 @case
-def small():
+def small() -> None:
     status, out, err = ran(PROGRAM, "2")
     plain, whole = out.split("\n\n")
     check("a small run", (status, len(plain.splitlines()), len(whole.splitlines()), err), (0, 2 + 36, 2 + 24, ""))
@@ -103,7 +106,7 @@ def small():
 
 
 @case
-def words():
+def words() -> None:
     here = os.getcwd()
     check("no such program", ran("no-such-program"), (1, "", f"compare.py: {here}/no-such-program: No such file or directory\n"))
     check("not numarun", ran("/bin/true", "1"), (1, "", "compare.py: /bin/true: ended at 'phase' with no answer, status 0\n"))

@@ -1,5 +1,7 @@
 """Compares what numarun-draw-plan draws of the worked examples with the pictures that stand for them, and looks at large ones."""
 
+from __future__ import annotations
+
 import json
 import os
 import re
@@ -60,11 +62,11 @@ c b: asks for 2, may have 2: 2-3
 PLAN = "plan total 20\nhold a 1-2\npool 0,3-15,17-31\nend\n"
 
 
-def stands(name, path, *words):
+def stands(name: str, path: str, *words: str) -> None:
     check(name, told("numarun-draw-plan", *words), (0, open(path).read(), ""))
 
 
-def answers_of(cpus, containers, last):
+def answers_of(cpus: int, containers: int, last: int) -> str:
     """A plan of equal containers with names that are long, and its certificate."""
     each = (cpus - 3) // containers
     holds = {f"{'container-' * 5}{k}": range(1 + each * k, 1 + each * k + each) for k in range(containers)}
@@ -74,7 +76,7 @@ def answers_of(cpus, containers, last):
     return "\n".join(lines)
 
 
-def large(cpus, nodes, containers):
+def large(cpus: int, nodes: int, containers: int) -> None:
     each = cpus // nodes
     machine = {"nodes": [f"{each * k}-{each * k + each - 1}" for k in range(nodes)], "reserved": "0"}
     path = scratch(f"machine-{cpus}.json")
@@ -92,7 +94,7 @@ def large(cpus, nodes, containers):
     apart(f"{cpus} CPUs", xml.fromstring(drawn))
 
 
-def cores(cpus, threads, nodes):
+def cores(cpus: int, threads: int, nodes: int) -> None:
     """Each core is a box, and within a node the CPUs of one stand together."""
     of = [range(k * threads, k * threads + threads) for k in range(cpus // threads)]
     lists = [f"{core[0]}-{core[-1]}" for core in of]
@@ -113,12 +115,12 @@ def cores(cpus, threads, nodes):
         apart(f"{words}", xml.fromstring(drawn))
 
 
-def apart(name, root):
+def apart(name: str, root: xml.Element) -> None:
     """No two texts overlap, and none reaches out of the picture, where a letter is 0.62 of its size wide at most."""
     boxes, spot = [], "{http://www.w3.org/2000/svg}text"
-    _, _, width, height = map(float, root.get("viewBox").split())
+    _, _, width, height = map(float, root.get("viewBox", "").split())
     for entry in root.iter(spot):
-        size, x, y = (float(entry.get(key)) for key in ("font-size", "x", "y"))
+        size, x, y = (float(entry.get(key, "")) for key in ("font-size", "x", "y"))
         wide = 0.62 * size * len(entry.text or "")
         left = x - wide / 2 if entry.get("text-anchor") == "middle" else x
         boxes.append((y - 0.75 * size, left, left + wide, y))
@@ -134,26 +136,26 @@ def apart(name, root):
 
 
 @case
-def worked_examples():
+def worked_examples() -> None:
     stands("before and after", os.path.join(TOP, "docs", "two-socket.svg"), "--before", MACHINE, ANSWERS)
     stands("before and after as text", os.path.join(TOP, "tests", "operators", "two-socket.txt"), "--before", "--text", MACHINE, ANSWERS)
     apart("before and after", xml.parse(os.path.join(TOP, "docs", "two-socket.svg")).getroot())
 
 
 @case
-def large_machines():
+def large_machines() -> None:
     for size in [(8, 2, 3), (32, 2, 6), (256, 8, 24), (1024, 64, 200), (4096, 128, 1024)]:
         large(*size)
 
 
 @case
-def machines_with_cores():
+def machines_with_cores() -> None:
     for size in [(12, 3, 2), (64, 2, 2), (256, 8, 4), (512, 128, 2), (4096, 2, 128), (4096, 8, 16)]:
         cores(*size)
 
 
 @case
-def refusals():
+def refusals() -> None:
     words_and_help("numarun-draw-plan", "operators/numarun-draw-plan examples/machines/two-socket.json < answers")
     bad_files("numarun-draw-plan", [], [ANSWERS])
     bad_files("numarun-draw-plan", [MACHINE])
@@ -176,7 +178,7 @@ def refusals():
 
 
 @case
-def shortages():
+def shortages() -> None:
     """Shortages in text, to the letter, and as a picture: which CPU says what, and that no two texts overlap."""
     json.dump({"nodes": ["0-3", "4-7"], "distances": [[10, 21], [21, 10]], "reserved": "0"}, open(TINY, "w"))
     check("a shortage", told("numarun-draw-plan", TINY, "--text", text=SHORT + SHORT_TOLD), (0, SHORT_DRAWN, ""))
@@ -190,8 +192,8 @@ def shortages():
     two = TINY_PLAN + SHORT + TINY_PLAN.replace("a 1-2", "a 1,3").replace("pool 0,3", "pool 0,2")
     status, out, _ = told("numarun-draw-plan", TINY, "--text", "--before", text=two)
     check("the plan before, over a shortage", (status, out.splitlines()[-2:]), (0, ["moves:", "  a a: gives 2, gets 3"]))
-    for more in ([], ["--before"]):
-        status, drawn, err = told("numarun-draw-plan", TINY, *more, text=TINY_PLAN + SHORT + SHORT_TOLD)
+    for more in ("", "--before"):
+        status, drawn, err = told("numarun-draw-plan", TINY, *more.split(), text=TINY_PLAN + SHORT + SHORT_TOLD)
         titles = re.findall("<title>(CPU .*)</title>", drawn)[-8:]
         each = ["CPU 0: reserved", "CPU 1: a", "CPU 2: for several", "CPU 3: b"] + [f"CPU {cpu}: for none" for cpu in range(4, 8)]
         check(f"a shortage drawn {more}", (status, titles, err), (0, each, ""))
@@ -199,7 +201,7 @@ def shortages():
 
 
 @case
-def odd_shortages():
+def odd_shortages() -> None:
     json.dump({"nodes": ["0-3", "4-7"], "distances": [[10, 21], [21, 10]], "reserved": "0"}, open(TINY, "w"))
     refuses("numarun-draw-plan", TINY, text=SHORT.replace("member b", "member a"), says="standard input: line 3: 'member a' is no line of a shortage")
     refuses("numarun-draw-plan", TINY, text=SHORT.replace("1-3", "1-8"), says="standard input: line 1: the machine has no CPU 8")

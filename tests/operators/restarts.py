@@ -1,11 +1,14 @@
 """Tries what an agent leaves to the next one: an agent that is told to end in the midst of a look, one that is killed behind a write for
 a container which is another one by then, and containers whose configs can't be had any more, while it runs and at a start."""
 
+from __future__ import annotations
+
 import json
 import os
 import signal
 import subprocess
 import time
+from typing import Optional
 
 from sites import QUOTA, Open, Site, of
 from numarun_host.cpus import read_list
@@ -13,7 +16,7 @@ from trial import case, check, told
 
 
 @case
-def in_a_look():
+def in_a_look() -> None:
     """It is told to end while it looks, where nothing happened: nothing is left undone."""
     site = Site()
     for name, count in (("a", 2), ("b", 1), ("s", 0)):
@@ -27,7 +30,7 @@ def in_a_look():
 
 
 @case
-def in_a_look_with_more():
+def in_a_look_with_more() -> None:
     """It is told to end while it has not told of all newcomers: that is left undone, and the next one does it."""
     site = Site({"nodes": ["0-127"], "distances": [[10]], "reserved": "0"})
     site.come("first", 1)
@@ -59,7 +62,7 @@ if killed:
 """
 
 
-def late(killed):
+def late(killed: str) -> Site:
     """A plan moves `a`, whose group is another one by then, and the agent is killed behind the last write, or later in its next look."""
     site = Site()
     site.come("a", 1)
@@ -81,7 +84,7 @@ BEHIND_THE_WRITE, IN_THE_NEXT_LOOK = "steps == 1", "line.startswith(b'create b '
 
 
 @case
-def killed_and_told():
+def killed_and_told() -> None:
     """One that is told at once has what it got so, since nobody else has it, until there is a plan."""
     site = late(BEHIND_THE_WRITE)
     site.come("a", 2, group=False)
@@ -89,8 +92,7 @@ def killed_and_told():
     check("told at once", (status, of(lines, "late", "adopt"), site.has("a", "b")), (0, [f"adopt a {site.at('g/a')} 2"], ["3-4", "2"]))
 
 
-@case
-def killed_behind_a_late_write(killed=BEHIND_THE_WRITE, name="a"):
+def nobody_shares(killed: str, name: Optional[str]) -> None:
     """The next agent does not know what the group has by that plan, nor which container it is: nobody gets CPUs that it shares with it."""
     site = late(killed)
     agent = Open(site)
@@ -108,13 +110,18 @@ def killed_behind_a_late_write(killed=BEHIND_THE_WRITE, name="a"):
 
 
 @case
-def killed_in_the_next_look():
-    """The same where the agent has seen that `a` ended, and is killed before it has looked at the new group."""
-    killed_behind_a_late_write(IN_THE_NEXT_LOOK, name=None)
+def killed_behind_a_late_write() -> None:
+    nobody_shares(BEHIND_THE_WRITE, "a")
 
 
 @case
-def late_in_a_slice():
+def killed_in_the_next_look() -> None:
+    """The same where the agent has seen that `a` ended, and is killed before it has looked at the new group."""
+    nobody_shares(IN_THE_NEXT_LOOK, None)
+
+
+@case
+def late_in_a_slice() -> None:
     """The same of a group of the system, which is above a pinned container by now: it is let go."""
     site = Site()
     for name in ("machine.slice", "machine.slice/pods"):
@@ -131,7 +138,7 @@ def late_in_a_slice():
     check("let go", (status, site.file("machine.slice/pods"), len(read_list(site.file("machine.slice/pods/pod"), "pod"))), (0, "", 2))
 
 
-def broken(site, name, text):
+def broken(site: Site, name: str, text: str) -> None:
     """A config in place of the one that is there, of which nobody sees a part."""
     with open(site.at("broken"), "w") as file:
         file.write(text)
@@ -139,7 +146,7 @@ def broken(site, name, text):
 
 
 @case
-def unreadable():
+def unreadable() -> None:
     """A config that is no JSON any more leaves a container as it is, also at a start, and nobody waits for it."""
     for text, why in (("{", "not JSON"), ("[]", "no JSON object")):
         site = Site()
@@ -168,7 +175,7 @@ def unreadable():
 
 
 @case
-def told_again_by_lines():
+def told_again_by_lines() -> None:
     """What was told by standard input is as it was until it is told again, or has no process any more."""
     site = Site()
     for name, count in (("a", 2), ("b", 1), ("c", 1)):
@@ -182,16 +189,15 @@ def told_again_by_lines():
     lines = agent.until("done")
     check("nobody was told of", sorted(line.split(":")[0] for line in of(lines, "stays", "ended", "unseen")), ["stays a", "stays b"])
     site.log()
-    agent.process.stdin.write(f"{tell['a']}{tell['b']}created d {site.at('g/d')}\n")
-    agent.process.stdin.flush()
+    agent.tell(f"{tell['a']}{tell['b']}created d {site.at('g/d')}\n")
     lines = agent.until("waits d") + agent.until("done")
     check("told again", (of(lines, "ended", "adopt"), site.has("a", "b"), [line for line in site.log() if line[0] in "ab"]), ([], ["1-2", "3"], []))
-    agent.process.stdin.close()
+    agent.end_input()
     check("d waits", agent.process.wait(), 1)
 
 
 @case
-def unreadable_while_others_are_reserved():
+def unreadable_while_others_are_reserved() -> None:
     """The same where all reserved CPUs go and come back, so that the agent takes up all anew: who has CPUs of its own keeps them."""
     site = Site({"nodes": ["0-7"], "distances": [[10]], "reserved": "7"})
     for name, count in (("first", 1), ("a", 2), ("s", 0)):
@@ -217,7 +223,7 @@ def unreadable_while_others_are_reserved():
 
 
 @case
-def unreadable_on_the_pool():
+def unreadable_on_the_pool() -> None:
     """The same of one that has none of its own: it is on the pool of each plan. Its nodes of memory are left as they are."""
     site = Site({"nodes": ["0-3", "4-7"], "distances": [[10, 21], [21, 10]], "reserved": "0"})
     site.online("0-7")
@@ -229,7 +235,7 @@ def unreadable_on_the_pool():
     check("on the pool", (site.run()[0], site.has("s", "b"), site.file("numarun/s", "cpuset.mems")), (1, ["0-2,4-7", "3"], "1"))
 
 
-def config(cpu=None, **more):
+def config(cpu: object = None, **more: object) -> str:
     return json.dumps({"ociVersion": "1.0.2", "root": {"path": "r"}, "linux": {"resources": {"cpu": cpu or {}}}, **more})
 
 
@@ -241,7 +247,7 @@ CANNOT_BE = [("E58 Missing root", json.dumps({"ociVersion": "1.0.2", "linux": {"
 
 
 @case
-def refused_for_good():
+def refused_for_good() -> None:
     """A config that can't be had leaves a container as it is, also at a start, and nobody is given its CPUs."""
     for fault, text in CANNOT_BE:
         site = Site()
@@ -263,7 +269,7 @@ def refused_for_good():
 
 
 @case
-def refused_at_first():
+def refused_at_first() -> None:
     """One that comes with such a config runs on the pool, and not on the CPUs of others. (Who asks for more than there are keeps what it has.)"""
     for fault, text in CANNOT_BE:
         for has in ("", "1-3")[:1 + (fault != "E66 QuotaTooLarge")]:

@@ -1,33 +1,36 @@
 """Tries the agent beside the groups of the system itself: those above a pinned container are let go, those beside it are held on the
 pool; and what was taken is given back."""
 
+from __future__ import annotations
+
 import json
 import os
 import shutil
+from typing import Any, Dict
 
 from sites import Open, Site
 from numarun_host import slices
-from numarun_host.cpus import print_list, read_list
+from numarun_host.cpus import Cpus, print_list, read_list
 from trial import case, check, refuses, told
 
 REST = ("--rest", "system.slice,user.slice,init.scope", "--rest", "machine.slice")
 SLICES = ("system.slice", "user.slice", "machine.slice")
 
 
-def place(group):
+def place(group: str) -> Dict[str, Any]:
     return {"linux": {"cgroupsPath": f"/{group}"}}
 
 
-def effective(site, group):
+def effective(site: Site, group: str) -> Cpus:
     """What a kernel has in effect: what is requested of what the group above has, or all of that."""
     if not group or not os.path.exists(site.at("root", group, "cpuset.cpus")):
-        return set(range(8))
+        return frozenset(range(8))
     above = effective(site, os.path.dirname(group))
     return read_list(site.file(group), group) & above or above
 
 
 @case
-def slices_with_containers():
+def slices_with_containers() -> None:
     """As podman and docker have it by systemd: a scope in a slice that is to be held on the pool."""
     site = Site()
     for name in (*SLICES, "system.slice/sshd.service", "system.slice/cron.service", "system.slice/a-b.slice", "system.slice/a-b.slice/x.service"):
@@ -49,7 +52,7 @@ def slices_with_containers():
 
 
 @case
-def comes_later():
+def comes_later() -> None:
     """A container comes into a slice that is on the pool, and ends."""
     site = Site()
     for name in ("system.slice", "system.slice/sshd.service"):
@@ -72,7 +75,7 @@ def comes_later():
 
 
 @case
-def held_before():
+def held_before() -> None:
     """A slice that an agent without such care has left on the pool, above a container."""
     site = Site()
     site.make_group(None, "0,3-7", group="machine.slice")
@@ -84,7 +87,7 @@ def held_before():
 
 
 @case
-def cannot_be():
+def cannot_be() -> None:
     """A slice that can't be let go, and one with processes of its own, are named and counted."""
     site = Site({"nodes": ["0-7,4000-4001"], "distances": [[10]], "reserved": "0"})
     site.online("0-7,4000-4001")
@@ -107,7 +110,7 @@ def cannot_be():
 
 
 @case
-def squeezed():
+def squeezed() -> None:
     """A pinned container that has not in effect what it was given is said at each look, and counted."""
     site = Site()
     site.come("a", 2)
@@ -128,7 +131,7 @@ def squeezed():
 
 
 @case
-def ids():
+def ids() -> None:
     for group, expected in [("system.slice", "system.slice"), ("system.slice/a@b.service", "system.slice+a_b.service-"), ("a" * 70, "a" * 55 + "-")]:
         found = slices.id_of(group)
         check(f"an id for {group}", (found[:len(expected)], len(found) <= 64), (expected, True))
@@ -136,7 +139,7 @@ def ids():
 
 
 @case
-def released():
+def released() -> None:
     """All that was taken is given back, as it was before; not while an agent runs."""
     site = Site()
     site.make_group(None, group="system.slice")

@@ -7,7 +7,8 @@ run.py --list [NAME..]   their names
 
 Each case is run in a process of its own, with an empty folder that SCRATCH names; the folder and what runs still goes behind it. What a case prints is shown
 once it has ended, and behind all cases of a file a line says how many were as expected. The status is 0 if all were, 1 if one was not, and 2 if
-the words name no case. PROGRAM names the program that they try, and GROUPS_LIBRARY the library by which it takes plain folders for a tree."""
+the words name no case. PROGRAM names the program that they try, and GROUPS_LIBRARY the library by which it takes plain folders for a tree.
+On a machine that has much else to do, SLOWER=N lets everything take N times as long before it counts as hung."""
 
 from __future__ import annotations
 
@@ -33,7 +34,7 @@ from numarun_host import agent, explain
 HERE = pathlib.Path(__file__).resolve().parent
 SHARED = (agent, explain, sites, trial)  # what most cases import is read once, before they are begun
 LONG = 10.0  # seconds from which on a line says how long a case took
-MOST = 3600  # seconds in which a case has to end
+MOST = int(600 * trial.SLOWER)  # seconds in which a case has to end
 
 
 class Unknown(Exception):

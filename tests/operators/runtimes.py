@@ -1,11 +1,14 @@
 """Tries what the agent knows of runtimes: their folders by name, lists of CPUs that runc's state has, one container that two folders tell
 of, states that are broken and names that are no ids; numarun-runc; and services that are described as containers."""
 
+from __future__ import annotations
+
 import json
 import os
 import random
 import subprocess
 import time
+from typing import Any, Dict, List, Optional, Sequence, Tuple
 
 from sites import QUOTA, Open, Site
 from numarun_host import runc, services, sources
@@ -15,7 +18,7 @@ from numarun_host.ledger import Ledger, Settings
 from numarun_host.machine import Machine
 from numarun_host.runtimes import FOLDERS, NAMES, Runtime, Watch, watches_of
 from numarun_host.taken import read_record
-from trial import OPERATORS, case, check, refuses, scratch, told, words_and_help, written
+from trial import OPERATORS, Told, case, check, refuses, scratch, told, words_and_help, written
 
 WRAPPER = os.path.join(OPERATORS, "numarun-runc")
 
@@ -24,7 +27,7 @@ WRAPPER = os.path.join(OPERATORS, "numarun-runc")
 
 
 @case
-def names():
+def names() -> None:
     """Each name stands for its folders, each of which is watched once, before those that are named by --watch."""
     check("docker", watches_of(["docker"], []), [Watch("/run/docker/runtime-runc/moby", True)])
     check("several", [watch.path for watch in watches_of(["podman,runc", "crun"], ["/g", "/run/crun"])], ["/run/crun", "/run/runc", "/g"])
@@ -35,7 +38,7 @@ def names():
         check(" ".join(words), (status, out, "is no runtime: docker, containerd, podman, cri-o, crun, runc, or all" in err), (2, "", True))
 
 
-def put_state(folder, bundle, group="", **cgroups):
+def put_state(folder: str, bundle: str, group: str = "", **cgroups: object) -> None:
     """A folder as runc keeps it, whose state is there at once."""
     os.makedirs(folder, exist_ok=True)
     state = {"id": os.path.basename(folder), "cgroup_paths": {"": group}, "config": {"labels": [f"bundle={bundle}"], "cgroups": cgroups}}
@@ -45,7 +48,7 @@ def put_state(folder, bundle, group="", **cgroups):
 
 
 @case
-def families():
+def families() -> None:
     """Of containerd each namespace is a folder, those that are there; one that comes is watched from then on."""
     site = Site()
     source = sources.Folders([Watch(site.at("runc", "*"), True), Watch(site.at("g"))], site.at("root"))
@@ -59,7 +62,7 @@ def families():
 
 
 @case
-def silent():
+def silent() -> None:
     """Those of runtimes that are not there are named once, together, and those of --watch one by one."""
     site = Site()
     source = sources.Folders([Watch("/no/docker", True), Watch("/no/containerd/*", True), Watch("/no/such")], site.at("root"))
@@ -71,7 +74,7 @@ def silent():
 
 
 @case
-def groups():
+def groups() -> None:
     """A group's path below the root, however it is said."""
     for text, expected in (("/a/b", "/a/b"), ("a//b/", "/a/b"), ("/tree/a/b", "/a/b"), ("/tree", "/tree"), ("", "/"), ("/../a", "/a"), ("//a", "/a")):
         check(f"below the root: {text!r}", below_root("/tree", text), expected)
@@ -82,7 +85,7 @@ def groups():
 # Lists of runc's.
 
 
-def with_runc(site, name, cpus, has=""):
+def with_runc(site: Site, name: str, cpus: str, has: str = "") -> None:
     """A container of runc's with a list of CPUs."""
     site.make_group(name, has)
     bundle = site.at("bundles", name)
@@ -92,7 +95,7 @@ def with_runc(site, name, cpus, has=""):
     update(site, name, cpus)
 
 
-def update(site, name, cpus, writes=False):
+def update(site: Site, name: str, cpus: str, writes: bool = False) -> None:
     """What an update leaves in runc's state, and in the group."""
     if writes:
         site.write(name, cpus)
@@ -100,7 +103,7 @@ def update(site, name, cpus, writes=False):
 
 
 @case
-def lists():
+def lists() -> None:
     """An update's list is followed and is no drift; what runc forgets by another update is kept, also for the next agent and for release."""
     site = Site()
     words = ("--watch", site.at("runc"))
@@ -142,7 +145,7 @@ def lists():
 
 
 @case
-def a_list_and_a_limit():
+def a_list_and_a_limit() -> None:
     """A limit that changes in the look in which somebody writes its CPUs is followed too."""
     site = Site()
     site.come("a", 2)
@@ -159,7 +162,7 @@ KILLED_AT = "if line.startswith(begins) and os.path.exists(armed):\n    os.remov
 
 
 @case
-def listed_and_lifted():
+def listed_and_lifted() -> None:
     """An update's list is followed of one whose limit is lifted, wherever the agent is killed meanwhile: what is kept has both, also once runc
     has forgotten the list, and a release gives both back."""
     for begins in ("kill pk", "adopt pk", "update pk", "begin", "step"):
@@ -183,7 +186,7 @@ def listed_and_lifted():
 
 
 @case
-def without_room():
+def without_room() -> None:
     """A list of CPUs that others have is not given, and the container keeps what it has until there is room."""
     site = Site()
     words = ("--watch", site.at("runc"))
@@ -205,7 +208,7 @@ def without_room():
 
 
 @case
-def told_twice():
+def told_twice() -> None:
     """What a hook and a runtime tell of one group is one container; two groups of one id are two."""
     site = Site()
     with_runc(site, "pk", "6-7", has="6-7")
@@ -235,7 +238,7 @@ def told_twice():
 
 
 @case
-def broken():
+def broken() -> None:
     """A state that is no state, or none that can be read, and names that are no ids, are said with their paths; the others go on."""
     site = Site()
     words = ("--watch", site.at("runc"))
@@ -277,7 +280,7 @@ def broken():
 
 
 @case
-def reads_words():
+def reads_words() -> None:
     """Which command it is, and of which bundle; all words are runc's but those that stand first."""
     for words, expected in (
             ([], ("", ".")), (["--version"], ("", ".")), (["state", "a"], ("state", ".")), (["create", "a"], ("create", ".")),
@@ -293,7 +296,7 @@ def reads_words():
 
 
 @case
-def by_chance():
+def by_chance() -> None:
     """However the options stand, the bundle that is found is the one that runc takes: the last that is named before the id."""
     chance = random.Random(74)
     for _ in range(2000):
@@ -308,20 +311,20 @@ def by_chance():
             check(f"by chance: {words}", (found.command, found.bundle), (command, bundle))
 
 
-def wrapped(bundle, *words, own=(), stand_in=None, **more):
+def wrapped(bundle: str, *words: str, own: Sequence[str] = (), stand_in: Optional[str] = None, **more: Any) -> Told:
     """numarun-runc over a stand-in for runc, which says its words."""
     stand_in = stand_in or written(scratch("runc-stand-in"), '#!/bin/sh\nprintf "%s\\n" "$@"\n', 0o755)
     ran = subprocess.run([WRAPPER, f"--numarun-runc={stand_in}", *own, *words], capture_output=True, cwd=bundle, timeout=60, **more)
     return ran.returncode, ran.stdout.decode(), ran.stderr.decode()
 
 
-def hooks_of(bundle):
+def hooks_of(bundle: str) -> Dict[str, List[Tuple[str, List[str]]]]:
     with open(os.path.join(bundle, "config.json")) as file:
         return {stage: [(os.path.basename(hook["path"]), hook["args"][1:]) for hook in hooks] for stage, hooks in json.load(file).get("hooks", {}).items()}
 
 
 @case
-def wraps():
+def wraps() -> None:
     """It adds both hooks, before others, once; runc has all words but one's own; what can't be read is left to it, what can't be written is
     refused, also where docker looks."""
     site = Site()
@@ -362,7 +365,7 @@ def wraps():
 
 
 @case
-def adds_services():
+def adds_services() -> None:
     """Both files of a service, its id, and where its group is: as systemd makes it, or where it is by now."""
     for unit, slice in (("postgresql.service", "system.slice"), ("postgresql@15-main.service", "system.slice/system-postgresql.slice"),
                         ("a-b@c.service", "system.slice/system-a\\x2db.slice")):

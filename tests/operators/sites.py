@@ -12,11 +12,11 @@ import textwrap
 import threading
 from typing import IO, Any, Dict, Iterator, List, Mapping, Optional, Tuple, Union
 
-from trial import OPERATORS, TOP, check, command, scratch, text_of, told, written
+from trial import OPERATORS, SLOWER, TOP, check, command, scratch, text_of, told, written
 
 IN_FOLDERS = os.path.join(os.path.dirname(os.path.abspath(__file__)), "in_folders.sh")
 QUOTA = 100000
-PATIENCE = 120  # seconds in which a line comes that is waited for, on the slowest machine
+PATIENCE = 30 * SLOWER  # seconds in which a line comes that is waited for
 EIGHT_CPUS: Mapping[str, object] = {"nodes": ["0-7"], "distances": [[10]], "reserved": "0"}
 # By hand each container that asks for CPUs gets some, however few are left.
 ALL_PINNED = ("--pin", "all", "--pool-least", "0")
@@ -190,6 +190,10 @@ class Open:
         assert self.process.stdin
         self.process.stdin.write(text)
         self.process.stdin.flush()
+
+    def end_input(self) -> None:
+        assert self.process.stdin
+        self.process.stdin.close()
 
     def until(self, beginning: str) -> List[str]:
         """The lines up to one that begins so."""

@@ -12,7 +12,8 @@ TOP = os.path.dirname(os.path.dirname(os.path.dirname(os.path.abspath(__file__))
 EXAMPLES, OPERATORS = os.path.join(TOP, "examples"), os.path.join(TOP, "operators")
 sys.path.insert(0, OPERATORS)
 PROGRAM = os.path.abspath(os.environ.get("PROGRAM", "no-program"))
-SECONDS = 900  # that a script has, on the slowest machine
+SLOWER = max(1.0, float(os.environ.get("SLOWER", "1")))  # how many times longer all may take than on a machine that does nothing else
+SECONDS = 120 * SLOWER  # that a script has
 CASES: Dict[str, Callable[[], None]] = {}
 failed: List[str] = []
 

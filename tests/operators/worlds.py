@@ -15,11 +15,11 @@ from dataclasses import dataclass
 from typing import Collection, Dict, Iterable, List, Mapping, Optional, Sequence
 
 from sites import Tree, config_of, section_of
-from trial import check, text_of, written
+from trial import SLOWER, check, text_of, written
 from numarun_host.cpus import NO_CPUS, Cpus, read_list
 
-MOST = 900.0  # seconds in which enough has to happen
-SAYS = 60.0   # seconds in which an agent says something
+MOST = 300 * SLOWER  # seconds in which enough has to happen
+SAYS = 20 * SLOWER   # seconds in which an agent says something
 
 
 @dataclass(frozen=True)
