@@ -84,8 +84,8 @@ def settled(agent: Agent) -> None:
     for _ in range(3):
         world.now += 100
         agent.look(troubled=False)
-        if agent.said:
-            world.wrong.append(f"said where nothing happens: {agent.said}")
+        if agent.lines:
+            world.wrong.append(f"said where nothing happens: {agent.lines}")
     if before != {path: place.cpus for path, place in world.places.items()}:
         world.wrong.append("written where nothing happens")
 

@@ -422,12 +422,14 @@ class Agent:
         self.program: Optional[Program] = None
         self.trial: Optional[Program] = None
         self.offline: Cpus = frozenset()  # as the program was begun
-        self.said: List[str] = []  # in the last look
+        self.lines: List[str] = []  # that were said in the last look
+        self.said: List[str] = []   # those of them that are warnings
         self.set_back: Dict[str, Cpus] = {}  # in the last look, by who was told of on the reserved CPUs, what the others requested then
         self.denied: Set[str] = set()        # in the last look, who was refused
         self.is_short = self.is_disturbed = self.has_plan = False  # in the last look
 
     def look(self, troubled: bool) -> None:
+        self.lines = []
         self.said, self.set_back, self.denied, self.is_short, self.is_disturbed, self.has_plan = [], {}, set(), False, False, False
         is_first = self.ledger.pool is None and not self.ledger.renewed
         steps = decide(self.ledger, self.world.look(self.ledger))
@@ -515,6 +517,7 @@ class Agent:
         return Answer(lines, (f"{self.world.refused}: Read-only file system",) if lines[0] == NO_WRITE else ())
 
     def hear(self, command: Say) -> None:
+        self.lines.append(command.line)
         if command.level is Level.WARNING:
             self.said.append(command.line)
         kind, _, name = command.line.partition(" ")
