@@ -80,6 +80,8 @@ def settled(agent: Agent) -> None:
     for name, row in agent.program.rows.items() if agent.program else ():
         if row.count is not None and len(world.places[world.path(name)].cpus - RESERVED) != row.count:
             world.wrong.append(f"{name} asks for {row.count} CPUs, and has {sorted(world.places[world.path(name)].cpus)}")
+        if row.count is None and world.places[world.path(name)].cpus != world.present - taken:
+            world.wrong.append(f"{name} is shared, and has {sorted(world.places[world.path(name)].cpus)}")
     before = {path: place.cpus for path, place in world.places.items()}
     for _ in range(3):
         world.now += 100

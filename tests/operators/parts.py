@@ -359,6 +359,21 @@ def mended() -> None:
 
 
 @case
+def mended_meanwhile() -> None:
+    """Of one that has again what it was given, a drift is said that was left for this look, unless its runtime gave it another list by then; and none twice."""
+    drift = Problem(Kind.DRIFT, "a", "a has 3 in place of 1-2: that is written again")
+    for unsaid, listed, expected in ((False, None, []), (True, None, ["drift " + drift.text]), (True, "1-2", []), (False, "1-2", [])):
+        ledger = ledger_of(container("a", State.PINNED, 2, cpus=cpus("1-2")))
+        ledger.problems[Topic.DRIFT, "a"] = drift
+        if unsaid:
+            ledger.unsaid.add((Topic.DRIFT, "a"))
+        turn, held = Turn(ledger, Look(0.0)), ledger.containers["a"]
+        turn.there["a"] = dataclasses.replace(held.seen, listed=listed)
+        commands, _ = done(changes.say_mended(turn, held))
+        check(f"unsaid {unsaid}, a list {listed}", (said(commands), ledger.problems, ledger.unsaid), (expected, {}, set()))
+
+
+@case
 def nodes() -> None:
     """Nodes that are no limit which a container follows are written again."""
     ledger = ledger_of(members=FOUR)
