@@ -218,7 +218,7 @@ def keep_lists(turn: Turn) -> None:
     ledger = turn.ledger
     for container in ledger.containers.values():
         seen, before = container.seen, ledger.taken.get(container.seen.group.path)
-        text = seen.listed or seen.told.listed
+        text = seen.told.listed
         if not before or not text or before.inode != seen.group.inode or not (before.listed or seen.listed):
             continue
         taken = dataclasses.replace(before, cpus=text, listed=bool(seen.listed))

@@ -374,6 +374,29 @@ def mended_meanwhile() -> None:
 
 
 @case
+def lists_kept() -> None:
+    """The list that an update by its runtime gave one is kept as what its group requested, and saved when it is another one."""
+    def taken(text: str, listed: bool = False, inode: int = 1) -> Taken:
+        return Taken(inode, text, "", False, None, listed)
+
+    rows: Sequence[Tuple[str, Optional[str], Optional[str], Taken, Taken]] = (
+        ("no list", None, None, taken("1"), taken("1")), ("its config's list", None, "6-7", taken("1"), taken("1")), ("an update's", "4-5", "4-5", taken("1"), taken("4-5", True)),
+        ("the same", "4-5", "4-5", taken("4-5", True), taken("4-5", True)), ("another one", "3", "3", taken("4-5", True), taken("3", True)),
+        ("forgotten by its state", "4-5", None, taken("4-5", True), taken("4-5", True)), ("its config's again", None, "6-7", taken("4-5", True), taken("6-7")),
+        ("another group", "4-5", "4-5", taken("1", inode=9), taken("1", inode=9)))
+    for name, listed, told_list, before, expected in rows:
+        seen = dataclasses.replace(sighting(), told=Told("/b", "/f", listed=told_list), listed=listed)
+        ledger = ledger_of(one("a", State.PINNED, seen=seen))
+        ledger.taken["/t/a"] = before
+        turn = Turn(ledger, Look(0.0))
+        changes.keep_lists(turn)
+        check(name, (ledger.taken["/t/a"], turn.unsaved), (expected, before != expected))
+    turn = Turn(ledger_of(one("a", State.PINNED, seen=seen)), Look(0.0))
+    changes.keep_lists(turn)
+    check("nothing was kept", (turn.ledger.taken, turn.unsaved), ({}, False))
+
+
+@case
 def nodes() -> None:
     """Nodes that are no limit which a container follows are written again."""
     ledger = ledger_of(members=FOUR)
