@@ -742,7 +742,7 @@ def seen_sets() -> None:
 
     for name, one, expected in (
         ("a", found(), (None, None)), ("a", found((2 * QUOTA, QUOTA)), ((2 * QUOTA, QUOTA), None)), ("a", found(nodes="0"), (None, None)),
-        ("a", found(nodes="1"), (None, cpus("1"))), ("a", found(nodes="9"), (None, None)), ("a", found(nodes=""), (None, None)),
+        ("a", found(nodes="1"), (None, cpus("1"))), ("a", found(nodes="3"), (None, cpus("3"))), ("a", found(nodes="4"), (None, None)), ("a", found(nodes=""), (None, None)),
         ("a", found((2 * QUOTA, QUOTA), "1", None), (None, None)), ("new", found(nodes="0-3"), (None, None)), ("new", found(nodes="2"), (None, cpus("2"))),
     ):
         check(f"what {name} is seen with", sightings.limits(ledger, name, one), expected)
@@ -759,6 +759,24 @@ def seen_sets() -> None:
     check("the same", [same(), same(stamp=("t",)), same(group=other), same(stamp=("t",), group=no_cpus), same(group=no_cpus),
                        same(stamp=("t",), told=dataclasses.replace(seen.told, turn=1)), same(stamp=("t",), group=dataclasses.replace(seen.group, path="/t/b"))],
           [True, True, False, False, True, False, False])
+
+
+@case
+def lists_of_updates() -> None:
+    """Which list of CPUs is that of an update by its runtime: one that is another than the config's, or that was kept, of this very group."""
+    same = [configs.same_list(text, other) for text, other in (("1-2", "2,1"), ("1-2", "1"), ("1-2", None), ("x", "1"), ("1", "x"), ("", ""))]
+    check("the same lists", same, [True, False, False, False, False, True])
+    for name, told, config, kept, folder, expected in (
+        ("none", None, {}, None, "/f", None), ("its config's", "4,5", config_of(cpus="4-5"), None, "/f", None), ("an update's", "4-5", config_of(cpus="6-7"), None, "/f", "4-5"),
+        ("where the config has none", "4-5", {}, None, "/f", "4-5"), ("kept", None, {}, Taken(1, "3", "", False, None, True), "/f", "3"),
+        ("kept, and no update's", None, {}, Taken(1, "3", "", False), "/f", None), ("kept of another group", None, {}, Taken(2, "3", "", False, None, True), "/f", None),
+        ("the system's", "4-5", {}, Taken(1, "3", "", False, None, True), None, None),
+    ):
+        ledger = ledger_of()
+        ledger.taken = {"/t/a": kept} if kept else {}
+        found = Found(Told("/b", folder, listed=told), ("s",), config, Group("/t/a", 1))
+        check(name, sightings.list_of(ledger, found), expected)
+    check("without a tree", sightings.list_of(ledger_of(root=None), Found(Told("/b", "/f", listed="4-5"), ("s",), {}, Group("", 0))), None)
 
 
 @case
