@@ -766,12 +766,13 @@ def lists_of_updates() -> None:
     """Which list of CPUs is that of an update by its runtime: one that is another than the config's, or that was kept, of this very group."""
     same = [configs.same_list(text, other) for text, other in (("1-2", "2,1"), ("1-2", "1"), ("1-2", None), ("x", "1"), ("1", "x"), ("", ""))]
     check("the same lists", same, [True, False, False, False, False, True])
-    for name, told, config, kept, folder, expected in (
+    rows: Sequence[Tuple[str, Optional[str], Config, Optional[Taken], Optional[str], Optional[str]]] = (
         ("none", None, {}, None, "/f", None), ("its config's", "4,5", config_of(cpus="4-5"), None, "/f", None), ("an update's", "4-5", config_of(cpus="6-7"), None, "/f", "4-5"),
         ("where the config has none", "4-5", {}, None, "/f", "4-5"), ("kept", None, {}, Taken(1, "3", "", False, None, True), "/f", "3"),
         ("kept, and no update's", None, {}, Taken(1, "3", "", False), "/f", None), ("kept of another group", None, {}, Taken(2, "3", "", False, None, True), "/f", None),
         ("the system's", "4-5", {}, Taken(1, "3", "", False, None, True), None, None),
-    ):
+    )
+    for name, told, config, kept, folder, expected in rows:
         ledger = ledger_of()
         ledger.taken = {"/t/a": kept} if kept else {}
         found = Found(Told("/b", folder, listed=told), ("s",), config, Group("/t/a", 1))
