@@ -13,7 +13,7 @@ from typing import Any, Dict, List, Mapping, Optional, Sequence, Tuple
 
 import mutants
 from trial import OPERATORS, case, check, scratch, text_of, written
-from numarun_host import cgroups, configs, homes, log, memory, placing, pool, reports, sightings, slices
+from numarun_host import cgroups, configs, homes, log, memory, placing, pool, reports, sightings, slices, telling
 from numarun_host.commands import Answer, Ask, Command, LeaveFigures, Level, RunPool, SaveTaken, Say, Start, Steps, T, Taken, Tell, Write
 from numarun_host.configs import Demand, Pin
 from numarun_host.cpus import Cpus, print_list, read_list
@@ -805,6 +805,24 @@ def replies() -> None:
         reply = Reply((text,))
         check(text, (reply.fault, reply.is_momentary), (fault, momentary))
     check("its refusal", Reply(("refused E104 NotFree 3",)).refusal, "E104 NotFree 3")
+
+
+@case
+def asked() -> None:
+    """What numarun says beside an answer is said, but for why a write was refused, and of what is asked quietly; refused writes are counted."""
+    for lines, quiet, expected in ((("ok",), False, (["note a", "note b"], 0, False)), (("ok",), True, ([], 0, False)), (("refused E50 KernelFault",), False, ([], 1, False)),
+                                   (("refused E45 NoPids",), False, (["note a", "note b"], 0, True))):
+        ledger, commands = ledger_of(), []
+        steps = telling.ask(ledger, Ask("x"), quiet)
+        command = next(steps)
+        try:
+            while True:
+                commands.append(command)
+                command = steps.send(Answer(lines, ("a", "b"), ending=quiet))
+        except StopIteration as end:
+            check(f"{lines}, quiet {quiet}: the last is why", (end.value.lines, end.value.note), (lines, "b"))
+        check(f"{lines}, quiet {quiet}", (said(commands), ledger.counts["refused_writes_total"], ledger.spent), expected)
+        check(f"{lines}, quiet {quiet}: told to end", ledger.ending, quiet)
 
 
 @case

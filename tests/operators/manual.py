@@ -45,10 +45,10 @@ def of_the_program() -> None:
         check(f"the page has {about!r}", squeezed(about) in page, True)
     for command in ("check", "list", "slit", "run", "solve"):
         text = helped("help", command)
-        usage = re.search(r"numarun (.+)", text)[1]
-        check(f"the page has the words of {command}", set(re.findall(r"[A-Za-z]+", usage)) <= set(re.findall(r"[A-Za-z]+", page)), True)
-        example = re.search(r"^Example: (.+?)(?: prints.*)?$", text, re.M)[1]
-        check(f"the page has an example of {command}", example.split(" <")[0] in open(PAGE).read(), True)
+        usage = re.search(r"numarun (.+)", text)
+        check(f"the page has the words of {command}", set(re.findall(r"[A-Za-z]+", usage[1] if usage else "none")) <= set(re.findall(r"[A-Za-z]+", page)), True)
+        example = re.search(r"^Example: (.+?)(?: prints.*)?$", text, re.M)
+        check(f"the page has an example of {command}", example and example[1].split(" <")[0] in open(PAGE).read(), True)
     for command in re.findall(r"^\| `([a-z]+)[^|]*\| (?:to|for|whether|that) ", open(os.path.join(TOP, "docs", "formats.md")).read(), re.M):
         check(f"the page has the line {command}", f".It Cm {command}" in open(PAGE).read(), True)
 
@@ -72,7 +72,7 @@ def of_the_agent() -> None:
     for words in ("what it works with:", "containers:", "the rest of the machine:", "what it leaves to read:", *(f"NUMARUN_{word}" for word in ("PIN", "LEAST", "STAY", "NEAR"))):
         check(f"the help has {words!r}", words in text, True)
     told = [action for action in parser_of_words()._actions if action.default and action.default != "==SUPPRESS=="]
-    lacking = [action.dest for action in told if f"({action.default})" not in " ".join((action.help % vars(action)).split())]
+    lacking = [action.dest for action in told if f"({action.default})" not in " ".join(((action.help or "") % vars(action)).split())]
     check("defaults that are not said", (lacking, len(told) > 5), (["program"], True))
 
 

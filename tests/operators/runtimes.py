@@ -13,6 +13,7 @@ from typing import Any, Dict, List, Optional, Sequence, Tuple
 from sites import QUOTA, Open, Site
 from numarun_host import runc, services, sources
 from numarun_host.cgroups import below_root, group_path
+from numarun_host.commands import Level, Say
 from numarun_host.decide import say_silent
 from numarun_host.ledger import Ledger, Settings
 from numarun_host.machine import Machine
@@ -69,8 +70,9 @@ def silent() -> None:
     source.look()
     ledger, said = Ledger(Settings(Machine(site.at("machine.json")))), []
     for _ in range(3):
-        said += [command.line for command in say_silent(ledger, source.folders)]
-    check("said once", said, ["note no such folders yet: /no/docker, /no/containerd", "note /no/such: no such folder yet"])
+        said += list(say_silent(ledger, source.folders))
+    lines = ["note no such folders yet: /no/docker, /no/containerd", "note /no/such: no such folder yet"]
+    check("said once", said, [Say(line, Level.NOTICE) for line in lines])
 
 
 @case
@@ -181,8 +183,8 @@ def listed_and_lifted() -> None:
             taken = read_record(site.at("work")).groups[site.at("root/numarun/pk")]
             check(f"killed at {begins}, and runc's list is {cpus!r}", (status, site.has("pk"), site.file("numarun/pk", "cpu.max"), taken.cpus, taken.limit, taken.listed),
                   (0, ["4-5"], "max", "4-5", (200000, 100000), True))
-        words = ("release", "--cgroup", site.at("root"), "--work", site.at("work"))
-        check("given back", (told("numarun-agent", *words)[0], site.has("pk"), site.file("numarun/pk", "cpu.max")), (0, ["4-5"], "200000 100000"))
+        release = ("release", "--cgroup", site.at("root"), "--work", site.at("work"))
+        check("given back", (told("numarun-agent", *release)[0], site.has("pk"), site.file("numarun/pk", "cpu.max")), (0, ["4-5"], "200000 100000"))
 
 
 @case
@@ -282,13 +284,14 @@ def broken() -> None:
 @case
 def reads_words() -> None:
     """Which command it is, and of which bundle; all words are runc's but those that stand first."""
-    for words, expected in (
+    table: Sequence[Tuple[List[str], Tuple[str, str]]] = (
             ([], ("", ".")), (["--version"], ("", ".")), (["state", "a"], ("state", ".")), (["create", "a"], ("create", ".")),
             (["--root", "create", "state", "run"], ("state", ".")), (["--root=/r", "create", "--bundle", "/b", "a"], ("create", "/b")),
             (["--log", "/l", "--log-format", "json", "--systemd-cgroup", "create", "--bundle=/b", "--pid-file", "/p", "a"], ("create", "/b")),
             (["-debug", "run", "-b", "/b", "--no-pivot", "-d", "a"], ("run", "/b")), (["run", "--no-pivot", "-bundle", "/b", "a"], ("run", "/b")),
             (["run", "--console-socket", "--bundle", "a"], ("run", ".")), (["create", "a", "--bundle", "/b"], ("create", ".")),
-            (["create", "--bundle"], ("create", ".")), (["exec", "--bundle", "/b", "a"], ("exec", "."))):
+            (["create", "--bundle"], ("create", ".")), (["exec", "--bundle", "/b", "a"], ("exec", ".")))
+    for words, expected in table:
         found = runc.read_words(words)
         check(f"the words {words}", ((found.command, found.bundle), list(found.runc), dict(found.own)), (expected, words, {}))
     found = runc.read_words(["--numarun-wait=3", "--numarun-folder=/f", "--root", "/r", "--numarun-wait=5", "create", "a"])
@@ -302,7 +305,7 @@ def by_chance() -> None:
     for _ in range(2000):
         before = [chance.choice([["--debug"], ["--log", "create"], ["--root=/run"], ["--rootless", "auto"], ["--systemd-cgroup"]]) for _ in range(chance.randrange(4))]
         behind = [chance.choice([["--no-pivot"], ["--pid-file", "--bundle"], ["--preserve-fds=3"], ["--console-socket", "/c"], ["-d"]]) for _ in range(chance.randrange(4))]
-        bundle = chance.choice([[], ["--bundle", "/b"], ["-b=/b"], ["-b", "/b"]])
+        bundle: List[str] = chance.choice([[], ["--bundle", "/b"], ["-b=/b"], ["-b", "/b"]])
         behind.insert(chance.randrange(len(behind) + 1), bundle)
         command = chance.choice(["create", "run", "state"])
         words = [word for group in [*before, [command], *behind, ["id"]] for word in group]
