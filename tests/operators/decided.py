@@ -823,6 +823,10 @@ def asked() -> None:
             check(f"{lines}, quiet {quiet}: the last is why", (end.value.lines, end.value.note), (lines, "b"))
         check(f"{lines}, quiet {quiet}", (said(commands), ledger.counts["refused_writes_total"], ledger.spent), expected)
         check(f"{lines}, quiet {quiet}: told to end", ledger.ending, quiet)
+    ledger = ledger_of()
+    ledger.ending = ledger.spent = True
+    _, reply = done(telling.ask(ledger, Ask("x")))
+    check("what is so stays so", (ledger.ending, ledger.spent, reply.note), (True, True, "ok"))
 
 
 @case

@@ -572,6 +572,8 @@ def spared() -> None:
     check("said", said(commands), ["waits d: it would leave 0 CPUs to the pool, and that keeps 3: it runs on the pool until there is room"])
     commands, _ = done(room.spare_the_pool(turn))
     check("it is enough", commands, [])
+    turn = Turn(ledger_of(one("a", State.PINNED, **asking(2)), one("b", State.ASKING, **asking(4)), pool_least=3), Look(0.0))
+    check("what would be left", said(done(room.spare_the_pool(turn))[0]), ["waits b: it would leave 2 CPUs to the pool, and that keeps 3: it runs on the pool until there is room"])
 
 
 @case
