@@ -284,6 +284,10 @@ def chosen_homes() -> None:
     check("who is on the pool keeps nobody off", home({}), cpus("2"))
     turn.ledger = ledger_of(members=FOUR, homes=False)
     check("--home none", home({}), None)
+    turn.ledger = ledger_of(members={"nodes": ["0-3", "4-7"], "distances": [[10, 21], [21, 10]], "reserved": "0"})
+    check("of two nodes", [home({}, count) for count in (3, 4, 5)], [cpus("0"), cpus("1"), None])
+    turn.ledger = ledger_of()
+    check("of one", (home({}), home({}, near=0)), (None, None))
 
 
 @case
