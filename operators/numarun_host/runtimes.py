@@ -23,8 +23,8 @@ class Runtime(Enum):
     RUNC = "runc"
 
 
-# containerd has a folder for each of its namespaces, and docker one in a folder of its own. podman and CRI-O leave it to
-# crun or runc.
+# containerd has a folder for each of its namespaces, and docker one in a folder of its own. podman and CRI-O leave it
+# to crun or runc.
 FOLDERS: Mapping[Runtime, Tuple[str, ...]] = {
     Runtime.DOCKER: ("/run/docker/runtime-runc/moby",),
     Runtime.CONTAINERD: ("/run/containerd/runc/*",),

@@ -766,6 +766,20 @@ def seen_sets() -> None:
 
 
 @case
+def seen_again() -> None:
+    """What is as it was at the last look is seen as the same object; where the container, what was taken or what is found is another one, it is seen anew."""
+    ledger = ledger_of(container("a", State.PINNED, 1, nodes=cpus("0")), members=FOUR)
+    found = Found(Told("/b", "/f"), ("s",), asks(1), Group("/t/a", 1, nodes=cpus("0")))
+    first = sightings.sighting_of(ledger, "a", found)
+    check("the same", sightings.sighting_of(ledger, "a", found) is first, True)
+    ledger.change("a", followed=cpus("3"))
+    check("another container", sightings.sighting_of(ledger, "a", found).nodes, cpus("3"))
+    ledger.taken["/t/a"] = Taken(1, "5", "", False, None, True)
+    check("another list", sightings.sighting_of(ledger, "a", found).listed, "5")
+    check("another config", sightings.sighting_of(ledger, "a", dataclasses.replace(found, config=asks(2))).config, asks(2))
+
+
+@case
 def lists_of_updates() -> None:
     """Which list of CPUs is that of an update by its runtime: one that is another than the config's, or that was kept, of this very group."""
     same = [configs.same_list(text, other) for text, other in (("1-2", "2,1"), ("1-2", "1"), ("1-2", None), ("x", "1"), ("1", "x"), ("", ""))]

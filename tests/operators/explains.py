@@ -24,8 +24,8 @@ ANSWERS = os.path.join(EXAMPLES, "scripts", "before-and-after.answers")
 SMALL = scratch("small.json")
 TINY = {"nodes": ["0-3", "4-7"], "distances": [[10, 21], [21, 10]], "reserved": "0"}
 
-# By hand. The machine is TINY; a holds 1-2, both near, b one near and one far, and c, which may have no others, the last near one.
-# A price of 11 for node 0's CPUs: b would give as much for another one there.
+# By hand. The machine is TINY; a holds 1-2, both near, b one near and one far, and c, which may have no others, the last
+# near one. A price of 11 for node 0's CPUs: b would give as much for another one there.
 FAR = """numarun-certificate 1
 row a 1 10:1-3 21:4-7
 row b 2 10:1-3 21:4-5
