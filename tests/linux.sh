@@ -27,7 +27,7 @@ has() {
 }
 
 inside=crun desk='' packages='' daemons='' libraries='' megabytes=320
-! has podman walk || inside+=" podman conmon catatonit"
+! has podman walk || inside+=" podman conmon"
 ! has runc containerd docker || inside+=" runc"
 ! has docker || inside+=" dash"
 ! has walk cores || desk=--desk

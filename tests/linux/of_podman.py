@@ -17,14 +17,13 @@ events_logger = "file"
 no_pivot_root = true
 runtime = "crun"
 conmon_path = ["/app/conmon"]
-helper_binaries_dir = ["/app"]
 [engine.runtimes]
 crun = ["/app/crun"]
 """, "storage.conf": """[storage]
 driver = "vfs"
 runroot = "/run/containers/storage"
 graphroot = "/var/lib/containers/storage"
-""", "policy.json": '{"default": [{"type": "insecureAcceptAnything"}]}'}  # that of Debian's package is not there, and a pod's own image asks for one
+"""}
 
 
 def prepare():

@@ -127,7 +127,7 @@ for line in sys.stdin:
 
 
 @case
-def moves_pages():
+def moves_pages() -> None:
     """A program that is silent where the kernel moves pages is waited for, and systemd hears that the agent works; SIGTERM is heard all the same."""
     slow = written(scratch("slow"), SLOW, 0o755)
     door = socket.socket(socket.AF_UNIX, socket.SOCK_DGRAM)

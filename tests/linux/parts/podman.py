@@ -73,9 +73,9 @@ def before_its_first_instruction():
 
 
 def in_a_pod():
-    """The group of a pod is podman's, and its members' lie below it, the infra container's too: one has CPUs of its own, whoever shares its pod."""
+    """The group of a pod is podman's, and its members' lie below it: one has CPUs of its own, whoever shares its pod."""
     agent = watched.Agent(watch=STATE)
-    podman("pod", "create", "--name", "duo", "--network", "none", "--exit-policy", "continue")
+    podman("pod", "create", "--name", "duo", "--infra=false")
     db, group = begin("db", "--pod", "duo", "--cpus", "2", "--stop-timeout", "0")
     web, other = begin("web", "--pod", "duo", "--stop-timeout", "0")
     assert os.path.dirname(group) == os.path.dirname(other) != "", (group, other)
