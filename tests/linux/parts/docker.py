@@ -133,7 +133,7 @@ def before_its_first_instruction():
     agent.says("ended eager(")
     agent.end()
     assert not os.listdir(CONTAINERS) and not [line for line in watched.lines() if line.startswith("refused")], watched.lines()[-20:]
-    said = docker("run", "-d", "--network", "none", "--runtime", "soon", "--name", "none", "--cpus", "1", of_docker.IMAGE, "/sleeper", status=127)
+    said = docker("run", "-d", "--network", "none", "--runtime", "soon", "--name", "none", "--cpus", "1", of_docker.IMAGE, "/sleeper", status=125)
     assert "the agent has not answered of" in said, said
     docker("rm", "none")
     of_docker.end(daemon)
