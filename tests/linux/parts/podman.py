@@ -83,8 +83,9 @@ def in_a_pod():
     podman("pod", "restart", "duo")
     (db, group), (web, _) = process("db"), process("web")
     agent.until(lambda: at_home(db, group, 2) and not tree.allowed(web) & tree.allowed(db), "podman pod restart")
+    lines = len(watched.lines())
     podman("pod", "rm", "-f", "-t", "0", "duo")
-    agent.until(lambda: sum(line.startswith("ended db(") for line in watched.lines()) == 2, "podman pod rm")
+    agent.until(lambda: {"ended db(", "ended web("} <= {line.partition("(")[0] + "(" for line in watched.lines()[lines:]}, "podman pod rm")
     agent.end()
     done = watched.release()
     assert not done.returncode, done
