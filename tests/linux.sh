@@ -30,7 +30,7 @@ inside=crun desk='' packages='' daemons='' libraries='' megabytes=320
 ! has podman walk || inside+=" podman conmon"
 ! has runc containerd docker || inside+=" runc"
 ! has docker || inside+=" dash"
-! has walk cores || desk=--desk
+! has walk || desk=--desk
 if has containerd docker; then
     packages=containerd daemons="usr/bin/containerd usr/bin/ctr usr/bin/containerd-shim-runc-v2" megabytes=512
 fi

@@ -16,7 +16,6 @@ from typing import Optional
 
 from .cpus import read_list
 from .describe_host import describe_host
-from .describe_hwloc import describe_hwloc
 from .script import replace_file
 
 EXAMPLE = """examples:
@@ -47,6 +46,7 @@ def main() -> int:
     if words.source == "host":
         described = describe_host(words.sys, named, words.renumber, words.cores, system)
     else:
+        from .describe_hwloc import describe_hwloc  # not above: not every Python has the parser of XML that it needs
         reserved = None if named is None else read_list(named, "--reserved")
         described = describe_hwloc(words.file, reserved, words.renumber, words.cores, system)
     if words.output:
