@@ -148,8 +148,8 @@ def by_readme():
         subprocess.run(describe[:-2], cwd=tree.REPOSITORY, stdout=file, check=True)
     with open("/tmp/by-readme", "w") as out:
         agent = subprocess.Popen(line_of("README.md", "operators/numarun-agent host.json --cgroup"), cwd=tree.REPOSITORY, stdin=subprocess.DEVNULL, stdout=out, stderr=subprocess.STDOUT)
-    assert tree.until(lambda: len(tree.allowed(pid)) == 4 or agent.poll() is not None, watched.SECONDS) and agent.poll() is None, read("/tmp/by-readme")
-    assert "\n" in read("/tmp/by-readme") and any(" hold first(" in line for line in read("/tmp/by-readme").splitlines()), read("/tmp/by-readme")
+    assert tree.until(lambda: len(tree.allowed(pid)) == 4 and " hold first(" in read("/tmp/by-readme") or agent.poll() is not None, watched.SECONDS)
+    assert agent.poll() is None, read("/tmp/by-readme")
     agent.terminate()
     agent.wait()
     subprocess.run(line_of("README.md", "operators/numarun-agent release"), cwd=tree.REPOSITORY, stdin=subprocess.DEVNULL, check=True, capture_output=True)
