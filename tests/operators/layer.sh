@@ -27,6 +27,7 @@ esac
 SCRIPT
 ln -sf /bin/true "$root/bin/systemctl"
 cat > "$root/start" <<'SCRIPT'
+rm -f /log  # else what the agent before said is taken for this one's
 setsid sh -c 'echo $$ > /agent; . /words' > /log 2>&1 < /dev/null &
 until grep -qs "^[^ ]* done" /log; do sleep 0.05; done
 SCRIPT
