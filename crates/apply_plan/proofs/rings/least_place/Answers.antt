@@ -10,7 +10,7 @@ pub loop-next-preserved : goal.loop-next-preserved
 loop-next-preserved c =
     let Least : Option ℕ → Type 0 = λ next. IsLeastSoFar c.args.cpus.now c.args.places.now c.args.end c.loop-next.least next in
     IsLeastSoFar-more c.args.cpus.now c.args.places.now c.args.end c.loop-next.least _ c.in-Some.cpu _
-    (subst Least c.in-Some.is c.loop-next.invariant) c.min.ensures (c.next_after-next.ensures.first, c.next_after-next.ensures.in_range)
+    (subst Least c.in-Some.is c.loop-next.invariant) c.min-least.ensures (c.next_after-next.ensures.first, c.next_after-next.ensures.in_range)
 
 pub loop-next-smaller : goal.loop-next-smaller
 loop-next-smaller c =

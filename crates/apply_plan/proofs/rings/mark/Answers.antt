@@ -4,7 +4,7 @@ use Rattle.apply_plan.proofs.CpuWalks.{IsMarked, IsMarked-none, IsMarked-more, I
 use Rattle.apply_plan.proofs.rings.mark.Goals as goal
 
 pub loop-next-init : goal.loop-next-init
-loop-next-init c = IsMarked-none _ _ _ _ _ c.requires refl (c.first-next.ensures.first, c.first-next.ensures.in_range)
+loop-next-init c = IsMarked-none _ _ _ _ _ c.requires.room refl (c.first-next.ensures.first, c.first-next.ensures.in_range)
 
 pub loop-next-preserved : goal.loop-next-preserved
 loop-next-preserved c =
