@@ -1,5 +1,5 @@
 -- What all writes of a direct hand-over leave.
-use Rattle.std.proofs.Common.{◌≡◌, ◌+◌, ◌*◌, ◌≤◌, length, true, false, refl, sym, ap, subst, arith, inl, inr}
+use Rattle.std.proofs.Common.{◌≡◌, ◌+◌, ◌*◌, ◌≤◌, List, length, true, false, refl, sym, ap, subst, arith, inl, inr}
 use Rattle.std.proofs.lemmas.Bool.{false≢true}
 use Rattle.std.specs.Prelude.{find, Option, Some, None, is_none, Result, Ok, Err, IsOk}
 use Rattle.kernel_model.specs.declared.KernelFault.{KernelFault}
@@ -9,13 +9,13 @@ use Rattle.kernel_model.specs.KernelLemmas.{itself_alike}
 use Rattle.apply_plan.specs.declared.Entry.{Entry}
 use Rattle.apply_plan.specs.declared.scan.Write.{Write}
 use Rattle.apply_plan.specs.Holders.{IsSafe}
-use Rattle.apply_plan.specs.Targets.{holders_of, IsHandover, ArePlaced}
+use Rattle.apply_plan.specs.Targets.{holders_of, IsHandover, IsPlaced, ArePlaced}
 use Rattle.apply_plan.specs.DueWrite.{held, must_move, written, HasTarget, HaveTargets}
 use Rattle.apply_plan.specs.Leaves.{KeepsRest}
 use Rattle.apply_plan.specs.LeavesLemmas.{rest_then}
 use Rattle.apply_plan.specs.ListLemmas.{all_map, find_none}
 use Rattle.apply_plan.specs.WriteLemmas.{holds_target}
-use Rattle.apply_plan.specs.KernelFactLemmas.{made_is_placed, placed_alike_tree}
+use Rattle.apply_plan.specs.KernelFactLemmas.{made_is_placed}
 use Rattle.apply_plan.specs.HandoverLemmas.{keeps_itself}
 use Rattle.apply_plan.specs.MayWrite.{OnWay, left_directly}
 use Rattle.apply_plan.specs.Directed.{Directed, allowed_of, Least, Serves}
@@ -78,7 +78,8 @@ module _ (d : Directed) (valid : IsHandover d.targets) (least : Least) (serves :
       at_end (Err fault) ends q = subst Q (sym ends.1) (fails last q)
 
     pub finish_placed : ArePlaced new d.targets.entries
-    finish_placed = at_end (λ k. ArePlaced k d.targets.entries) (λ k p. placed_alike_tree k (failed k) d.targets.entries refl p) r f.ends last_placed
+    finish_placed = at_end (λ k. ArePlaced k d.targets.entries)
+        (λ k p. all_map (λ e. IsPlaced k e.group) (λ e. IsPlaced (failed k) e.group) (λ e q. record { there = q.there; below = q.below }) d.targets.entries p) r f.ends last_placed
 
     pub finish_safe : IsSafe old d.targets.reserved (holders_of d.targets.entries) → IsSafe new d.targets.reserved (holders_of d.targets.entries)
     finish_safe safe =
@@ -143,7 +144,7 @@ module _ (d : Directed) (valid : IsHandover d.targets) (least : Least) (serves :
 
     pub finish_few : new.writes ≤ old.writes + 2 * length d.targets.entries + rise r
     finish_few =
-        let spent : SpendsDirectly d old (rise r) new = finish_spends in
+        let spent : new.writes + left_directly d.targets new ≤ old.writes + left_directly d.targets old + rise r = finish_spends in
         let few : left_directly d.targets old ≤ 2 * length d.targets.entries = few_left d.targets old in
         omega (arith, spent, few)
 

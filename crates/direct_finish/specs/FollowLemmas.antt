@@ -1,5 +1,5 @@
 -- Writes one after another.
-use Rattle.std.proofs.Common.{◌≡◌, ◌+◌, Bool, true, false, ◌||◌, List, [], ◌∷◌, ◌++◌, refl, sym, ap, ◌∙◌, subst, arith}
+use Rattle.std.proofs.Common.{◌≡◌, ◌+◌, ◌≤◌, Bool, true, false, ◌||◌, List, [], ◌∷◌, ◌++◌, refl, sym, ap, ◌∙◌, subst, arith}
 use Rattle.std.specs.Prelude.{Some}
 use Rattle.kernel_model.specs.declared.KernelFault.{KernelFault}
 use Rattle.kernel_model.specs.KernelState.{KernelState}
@@ -59,7 +59,16 @@ module _ (P : KernelState → Write → Type 0) where
 
 -- some of the writes, and then some more
 pub falls_then : (h : Targets) (old mid new : KernelState) (a b : Bool) → Falls h old mid a → Falls h mid new b → Falls h old new (a || b)
-falls_then h old mid new true true x y = omega (arith, x, y)
-falls_then h old mid new true false x y = let same : left_directly h new ≡ left_directly h mid = ap (left_directly h) y in omega (arith, x, same)
-falls_then h old mid new false true x y = let same : left_directly h mid ≡ left_directly h old = ap (left_directly h) x in omega (arith, y, same)
+falls_then h old mid new true true x y =
+    let first : left_directly h mid + 1 ≤ left_directly h old = x in
+    let second : left_directly h new + 1 ≤ left_directly h mid = y in
+    omega (arith, first, second)
+falls_then h old mid new true false x y =
+    let first : left_directly h mid + 1 ≤ left_directly h old = x in
+    let same : left_directly h new ≡ left_directly h mid = ap (left_directly h) y in
+    omega (arith, first, same)
+falls_then h old mid new false true x y =
+    let same : left_directly h mid ≡ left_directly h old = ap (left_directly h) x in
+    let second : left_directly h new + 1 ≤ left_directly h mid = y in
+    omega (arith, second, same)
 falls_then h old mid new false false x y = y ∙ x

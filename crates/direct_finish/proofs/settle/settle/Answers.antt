@@ -10,18 +10,18 @@ loop-turn-init g c =
     let h : Targets = record { entries = c.args.entries.now; reserved = c.args.reserved.now } in
     record { made = none_written (TakesFree h) (g.K.Kernel.state c.args.kernel.now); falls = refl; ready = c.requires.ready }
 
-pub next_place-place-requires : goal.next_place-place-requires
-next_place-place-requires g c = c.loop-turn.invariant.ready.placed
+pub next_place-requires : goal.next_place-requires
+next_place-requires g c = c.loop-turn.invariant.ready.placed
 
 pub loop-turn-preserved : goal.loop-turn-preserved
 loop-turn-preserved g c =
     let h : Targets = record { entries = c.args.entries.now; reserved = c.args.reserved.now } in
     let first = g.K.Kernel.state c.args.kernel.now in
     let old = g.K.Kernel.state c.loop-turn.kernel in
-    let new = g.K.Kernel.state c.take_at-took.new.kernel in
+    let new = g.K.Kernel.state c.take_at.new.kernel in
     record {
       made = written_then (TakesFree h) first old new c.loop-turn.invariant.made c.in_ok-took.ensures.leaves;
-      falls = rw c.either.ensures (falls_then h first old new c.loop-turn.moved c.in_ok-took.took c.loop-turn.invariant.falls c.in_ok-took.ensures.falls);
+      falls = rw c.either-moved.ensures (falls_then h first old new c.loop-turn.moved c.in_ok-took.took c.loop-turn.invariant.falls c.in_ok-took.ensures.falls);
       ready = c.in_ok-took.ensures.ready;
     }
 
