@@ -1,0 +1,10 @@
+use Rattle.std.proofs.Common.{◌≡◌, length}
+use Rattle.std.specs.FinSet as set
+use Rattle.blame.proofs.OwnerLemmas.{IsNoted}
+use Rattle.blame.proofs.owners.note.Given as goal
+
+abbrev pub invariant-loop-cpu : goal.invariant-loop-cpu
+invariant-loop-cpu l = IsNoted l.cpus l.left l.row l.initial.own l.own
+
+abbrev pub decreases-loop-cpu : goal.decreases-loop-cpu
+decreases-loop-cpu l = set.len l.left

@@ -1,0 +1,6 @@
+pub mod Counting
+pub mod Asking
+pub mod HallsTheorem
+pub mod Needed
+pub mod AskingLaws
+pub mod OthersLaws
