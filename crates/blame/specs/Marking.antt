@@ -13,6 +13,7 @@ use Rattle.hall.specs.Needed.{IsPartPlan, AreKnown, IsOpenToKnown}
 abbrev pub owner : List ℕ → ℕ → ℕ
 owner own c = slice_index_or own c 0
 
+-- whether row k is marked
 abbrev pub is_marked : List Bool → ℕ → Bool
 is_marked marks k = slice_index_or marks k false
 

@@ -18,6 +18,7 @@ use Rattle.blame.specs.declared.lowering.Lowered.TheVariants as lowered
 abbrev pub number_at : List ℕ → ℕ → ℕ
 number_at numbers i = slice_index_or numbers i 0
 
+-- the set at a place
 abbrev pub set_at : List Ids → ℕ → Ids
 set_at sets i = slice_index_or sets i set.empty
 

@@ -6,7 +6,7 @@ ghost use Rattle.certificate.specs.Limits.{rows_fit};
 ghost use Rattle.certificate.specs.Weight.{weight};
 ghost use Rattle.hall.specs.Asking.{demand_at};
 ghost use Rattle.hall.specs.Needed.{others};
-ghost use Rattle.blame.specs.Parts.{IsPart, IsPartAnswer, number_at};
+ghost use Rattle.blame.specs.Parts.{IsPart, IsPartAnswer, asked_at, number_at};
 
 use certificate::{MAX_DEMAND, Offer, Offers, Problem, Row};
 use cpu_set::IdSet;
@@ -70,11 +70,19 @@ fn part_of(
     let mut part = Vec::new(alloc);
     for k in numbers {
         let row = &rows[*k];
-        let asked = if *k == root { demand } else { row.demand };
+        let asked = asked_at(rows, *k, root, demand);
         let alike = without_weights(alloc, row, asked)?;
         part.push(alike)?;
     }
     Ok(Problem { rows: part })
+}
+
+/// What a row asks for, where the root asks for so many CPUs.
+fn asked_at(rows: &[Row], k: usize, root: usize, demand: u32) -> u32
+    requires { k < length rows.now }
+    ensures { result ≡ asked_at rows.now root demand k }
+{
+    if k == root { demand } else { rows[k].demand }
 }
 
 /// A row that may have the same CPUs, all at one weight.
