@@ -14,7 +14,7 @@ use Rattle.cpu_set.specs.declared.TheConstants.{CPU_LIMIT}
 use Rattle.certificate.specs.RowView.{RowView}
 use Rattle.certificate.specs.Weight.{weight}
 use Rattle.hall.specs.AskingLaws.{may_here}
-use Rattle.hall.specs.Counting.{count, count_le, count_change}
+use Rattle.hall.specs.CountingLaws.{count, count_le, count_change}
 use Rattle.hall.specs.Needed.{IsNeeded, AreKnown, IsOpenToKnown, HoldsOfKnown, HoldersAreNeeded}
 use Rattle.blame.specs.Marking.{owner, is_marked, IsOwned, held_in, IsMarking, IsMore, AreQueued}
 

@@ -13,7 +13,7 @@ use Rattle.cpu_set.specs.SetLaws.{those-contains}
 use Rattle.cpu_set.specs.declared.TheConstants.{CPU_LIMIT}
 use Rattle.certificate.specs.RowView.{RowView}
 use Rattle.hall.specs.Asking.{demand_at, may_have}
-use Rattle.hall.specs.Counting.{count_same, count_nothing}
+use Rattle.hall.specs.CountingLaws.{count_same, count_nothing}
 use Rattle.hall.specs.Needed.{others, held_by}
 use Rattle.hall.specs.OthersLaws.{others_rise, others_all, in_others, of_others, not_in_others}
 use Rattle.blame.specs.Marking.{owner, IsOwned}

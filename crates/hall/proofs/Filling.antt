@@ -2,7 +2,7 @@
 use Rattle.std.proofs.Common.{◌≡◌, ℕ, zero, suc, ◌+◌, ◌<◌, ◌≤◌, Bool, sym, ap, ◌∙◌, inl, inr, ◌⊎◌, arith}
 use Rattle.std.specs.Prelude.{◌==◌}
 use Rattle.std.proofs.lemmas.Bool.{cases_eq, cases_lt, ne_eqb}
-use Rattle.hall.specs.Counting.{count_nothing}
+use Rattle.hall.specs.CountingLaws.{count_nothing}
 use Rattle.hall.proofs.Moving.{held}
 use Rattle.hall.proofs.Searching.{IsAllowed, IsStopped, IsFilled, IsLacking, fill}
 

@@ -2,7 +2,7 @@
 use Rattle.std.proofs.Common.{◌≡◌, ℕ, ◌+◌, ◌<◌, ◌≤◌, Bool, true, false, cond, ◌&&◌, not, nat_lt, refl, sym, ap, subst, inl, inr, arith}
 use Rattle.std.specs.Prelude.{◌==◌}
 use Rattle.std.proofs.lemmas.Bool.{cases_Bool, eq-eqb, eqb-true, ne_eqb, both_ways, and_parts, and_from, not-true, false_from_ne_true}
-use Rattle.hall.specs.Counting.{count, count_apart}
+use Rattle.hall.specs.CountingLaws.{count, count_apart}
 use Rattle.hall.proofs.Sums.{total_change}
 use Rattle.hall.proofs.Moving.{held}
 use Rattle.hall.proofs.Searching.{IsAllowed}

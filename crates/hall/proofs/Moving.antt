@@ -2,7 +2,7 @@
 use Rattle.std.proofs.Common.{◌≡◌, ℕ, ◌+◌, ◌<◌, cond, refl, ap, arith}
 use Rattle.std.specs.Prelude.{◌==◌}
 use Rattle.std.proofs.lemmas.Bool.{eq-eqb, ne_eqb}
-use Rattle.hall.specs.Counting.{count, count_change}
+use Rattle.hall.specs.CountingLaws.{count, count_change}
 
 -- row k holds so many of the first n CPUs
 abbrev pub held : ℕ → (ℕ → ℕ) → ℕ → ℕ

@@ -12,7 +12,7 @@ use Rattle.cpu_set.specs.declared.TheConstants.{CPU_LIMIT}
 use Rattle.certificate.specs.RowView.{RowView}
 use Rattle.hall.specs.Asking.{demand_at, may_have}
 use Rattle.hall.specs.Needed.{others, IsNeeded, IsPartPlan, AreKnown, HoldsOfKnown, RootIsNeeded, HoldersAreNeeded, FewerHavePlans}
-use Rattle.hall.specs.Counting.{count, count_le}
+use Rattle.hall.specs.CountingLaws.{count, count_le}
 use Rattle.hall.specs.OthersLaws.{contains_kept}
 use Rattle.hall.proofs.Serving.{is_open, open_by}
 use Rattle.hall.proofs.Marking.{without, marked_is_needed}

@@ -21,7 +21,7 @@ use Rattle.certificate.specs.IsShortage.{chosen}
 use Rattle.certificate.specs.ApartLemmas.{AllPairs-tail, AllPairs-head}
 use Rattle.hall.specs.Asking.{demand_of, demand_at, may_have}
 use Rattle.hall.specs.AskingLaws.{some_weight, weight_some}
-use Rattle.hall.specs.Counting.{count_same}
+use Rattle.hall.specs.CountingLaws.{count_same}
 use Rattle.hall.proofs.Moving.{held}
 use Rattle.hall.proofs.Serving.{IsServed, Served}
 

@@ -2,7 +2,7 @@
 use Rattle.std.proofs.Common.{◌≡◌, ℕ, zero, suc, ◌+◌, ◌<◌, ◌≤◌, Bool, true, false, cond, ◌||◌, ◌&&◌, not, nat_lt, refl, sym, ap, ◌∙◌, subst, inl, inr, ◌⊎◌, arith}
 use Rattle.std.specs.Prelude.{◌==◌}
 use Rattle.std.proofs.lemmas.Bool.{cases_eq, cases_lt, eq-eqb, eqb-true, ne_eqb, both_ways, and_parts, and_cases, or_cases, or_left, or_right, not-true, not-false, lt-ltb, ltb-true}
-use Rattle.hall.specs.Counting.{count, count_change, pair_or_none}
+use Rattle.hall.specs.CountingLaws.{count, count_change, pair_or_none}
 use Rattle.hall.proofs.Moving.{held, move, move_here, move_other, held_moved, is_own, is_not_own}
 
 -- so many CPUs and rows, and which row may have which CPU. `own c` is the row that holds CPU c, or no row.

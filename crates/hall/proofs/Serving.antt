@@ -3,7 +3,7 @@ use Rattle.std.proofs.Common.{◌≡◌, ℕ, zero, suc, ◌+◌, ◌<◌, ◌�
 use Rattle.std.specs.Prelude.{◌==◌}
 use Rattle.std.proofs.lemmas.Bool.{cases_lt, eq-eqb, ne_eqb, and_parts, and_from, and_left, lt-ltb, ltb-true, le-ltb}
 use Rattle.cpu_set.specs.SetLaws.{len-those_none}
-use Rattle.hall.specs.Counting.{count, count_suc, count_le, count_some, count_nothing, one_or_none}
+use Rattle.hall.specs.CountingLaws.{count, count_suc, count_le, count_some, count_nothing, one_or_none}
 use Rattle.hall.proofs.Sums.{total, total_same, total_lt, total_zero, total_add, total_change}
 use Rattle.hall.proofs.Moving.{held}
 use Rattle.hall.proofs.Searching.{IsAllowed}

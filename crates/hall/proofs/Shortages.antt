@@ -20,7 +20,7 @@ use Rattle.certificate.specs.IsShortage.{chosen, asked, is_offered, offered, IsS
 use Rattle.certificate.specs.CpuLaws.{sum_by-cpus-le}
 use Rattle.hall.specs.Asking.{demand_of, demand_at, may_have}
 use Rattle.hall.specs.AskingLaws.{asked_one}
-use Rattle.hall.specs.Counting.{count, one_at_most}
+use Rattle.hall.specs.CountingLaws.{count, one_at_most}
 use Rattle.hall.proofs.Sums.{total, total_same}
 use Rattle.hall.proofs.Serving.{of_marked, is_open, open_by, AreShort}
 use Rattle.std.proofs.lemmas.Bool.{and_parts, and_from, ltb-true, lt-ltb}

@@ -1,4 +1,4 @@
-pub mod Counting
+pub mod CountingLaws
 pub mod Asking
 pub mod HallsTheorem
 pub mod Needed

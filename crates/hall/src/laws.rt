@@ -2,8 +2,8 @@
 ghost use Rattle.hall.specs.HallsTheorem.{HallsTheorem};
 ghost use Rattle.hall.specs.Needed.{FewerHavePlans, HoldersAreNeeded, RootIsNeeded};
 
-/// Hall's theorem, for rows that ask for several CPUs each: if no rows ask together for more CPUs than the union of their
-/// offers has, there is a plan.
+/// Hall's theorem, for rows that ask for several CPUs each: if no rows ask together for more CPUs than the union of
+/// their offers has, there is a plan.
 ///
 /// Source: P. Hall, "On Representatives of Subsets", 1935.
 pub fn halls_theorem()
