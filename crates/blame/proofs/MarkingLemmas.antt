@@ -176,21 +176,22 @@ unseen_next cpus seen more before left cpu unseen less is c on =
 
 -- before any CPU is seen
 pub none_seen :
-    (rows : List RowView) (members own : List ℕ) (root : ℕ) (known : List Bool) (seen : Ids) (of_row : List ℕ) (n : ℕ)
-    → length known ≡ length rows → AreKnown rows members root (is_marked known) → seen ≡ ids.empty → of_row ≡ replicate n 0
+    (rows : List RowView) (members own : List ℕ) (root : ℕ) (known : List Bool) (seen : Ids) (of_row : List ℕ)
+    → length known ≡ length rows → AreKnown rows members root (is_marked known) → seen ≡ ids.empty → ((k : ℕ) → get_or of_row k 0 ≡ 0)
     → IsMarking rows members own root known seen of_row
-none_seen rows members own root known seen of_row n long known_are none zero = record {
+none_seen rows members own root known seen of_row long known_are none zero = record {
   long = long;
   known_are = known_are;
   seen_open = λ c on. absurd (both_ways _ (ap (λ s. ids.contains s c) none ∙ contains-empty c) on);
-  counted = λ k. omega (arith, at_zero k);
+  counted = λ k. omega (arith, zero k);
 }
-  where
-    at_zero : (k : ℕ) → get_or of_row k 0 ≡ 0
-    at_zero k = ap (λ xs. get_or xs k 0) zero ∙ elim (cases_lt k n) [
-      | inl lt ↦ get_or-replicate n k 0 0 lt
-      | inr past ↦ get_or_past (replicate n 0) k 0 (let long : length (replicate {A = ℕ} n 0) ≡ n = length-replicate {A = ℕ} n 0 in omega (arith, past, long))
-    ]
+
+-- each row counts none
+pub all_zero : (of_row : List ℕ) (n k : ℕ) → of_row ≡ replicate n 0 → get_or of_row k 0 ≡ 0
+all_zero of_row n k zero = ap (λ xs. get_or xs k 0) zero ∙ elim (cases_lt k n) [
+  | inl lt ↦ get_or-replicate n k 0 0 lt
+  | inr past ↦ get_or_past (replicate n 0) k 0 (let long : length (replicate {A = ℕ} n 0) ≡ n = length-replicate {A = ℕ} n 0 in omega (arith, past, long))
+]
 
 -- what stands in the queue is marked, so it is one of the rows
 pub queued_row : (known : List Bool) (queue : List ℕ) (step row : ℕ) → AreQueued known queue → step < length queue → row ≡ get_or queue step row → is_marked known row ≡ true

@@ -1,5 +1,5 @@
 //! Who is needed in a shortage, by who holds what.
-ghost use Rattle.std.specs.Prelude.{◌≡◌, ℕ, true, false, List, length, OnOk, IfOk};
+ghost use Rattle.std.specs.Prelude.{◌≡◌, ℕ, true, false, List, length, slice_index, OnOk, IfOk};
 ghost use Rattle.std.specs.FinSet as set;
 ghost use Rattle.cpu_set.specs.Members.{IsCpu};
 ghost use Rattle.certificate.specs.RowView.{RowView};
@@ -38,16 +38,37 @@ pub(crate) fn mark(
         → AreKnown rows.now members part.now.root (is_marked known.old)
         → AreKnown rows.now members part.now.root (is_marked known.new)) }
 {
-    let mut seen = IdSet::empty();
     let mut of_row = vec![in alloc; 0u32; known.len()]?;
     let mut queue = places_of(alloc, known)?;
+    mark_from(rows, part, known, of_row.as_mut_slice(), &mut queue)
+}
+
+/// Looks at what the rows in the queue may have, which gets longer meanwhile.
+fn mark_from(
+    rows: &[Row],
+    part: &PartPlan,
+    known: &mut [bool],
+    of_row: &mut [u32],
+    queue: &mut Vec<usize>,
+) -> Result<(), AllocError>
+    requires own { length part.now.own.items ≡ CPU_LIMIT }
+    requires long { length known.old ≡ length rows.now }
+    requires as_long { length of_row.old ≡ length known.old }
+    requires none { (k : ℕ) → slice_index of_row.old k ≡ 0 }
+    requires queued { AreQueued known.old queue.old.items }
+    ensures { OnOk result ((members : List ℕ)
+        → IsOwned rows.now members part.now.own.items part.now.root part.now.lacking
+        → AreKnown rows.now members part.now.root (is_marked known.old)
+        → AreKnown rows.now members part.now.root (is_marked known.new)) }
+{
+    let mut seen = IdSet::empty();
     for step in 0..rows.len() {
         if step >= queue.len() {
             return Ok(());
         }
         let row = &rows[queue[step]];
         let cpus = row.offers.cpus();
-        see_row(&cpus, part, known, &mut seen, &mut of_row, &mut queue)?;
+        see_row(&cpus, part, known, &mut seen, of_row, queue)?;
     }
     Ok(())
 }

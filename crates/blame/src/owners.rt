@@ -29,9 +29,10 @@ pub(crate) fn owners(
 }
 
 /// Notes who holds the CPUs of a set.
-fn note(cpus: &IdSet, row: usize, own: &mut [usize])
-    requires { length own.old ≡ CPU_LIMIT }
-    ensures { (c : ℕ) → IsCpu c → owner own.new c ≡ cond (set.contains cpus.now c) row (owner own.old c) }
+fn note(cpus: &IdSet, row: usize, own: &mut Vec<usize>)
+    requires { length own.old.items ≡ CPU_LIMIT }
+    ensures long { length own.new.items ≡ CPU_LIMIT }
+    ensures noted { (c : ℕ) → IsCpu c → owner own.new.items c ≡ cond (set.contains cpus.now c) row (owner own.old.items c) }
 {
     let mut left = *cpus;
     while let Some(cpu) = left.first() {

@@ -84,7 +84,7 @@ fn marks_of(alloc: Global, rows: &[Row], part: &PartPlan) -> Result<Vec<bool>, A
     hall::laws::holders_are_needed();
     let mut known = vec![in alloc; false; rows.len()]?;
     known[part.root] = true;
-    mark(alloc, rows, part, &mut known)?;
+    mark(alloc, rows, part, known.as_mut_slice())?;
     Ok(known)
 }
 
@@ -112,7 +112,7 @@ fn try_one(alloc: Global, rows: &[Row], row: usize, marked: &mut Marked) -> Resu
     ensures kept { OnOk result ((k : ℕ) → IsSettled marked.old k → IsSettled marked.new k) }
 {
     hall::laws::fewer_have_plans();
-    if marked.known[row] || !marked.members.contains(&row) {
+    if is_settled(marked, row) {
         return Ok(());
     }
     let rest = others(alloc, &marked.members, row)?;
@@ -121,4 +121,12 @@ fn try_one(alloc: Global, rows: &[Row], row: usize, marked: &mut Marked) -> Resu
         PartAnswer::Plan(_) => marked.known[row] = true,
     }
     Ok(())
+}
+
+/// Whether the row is no member, or known to be needed.
+fn is_settled(marked: &Marked, row: usize) -> bool
+    requires { row < length marked.now.known.items }
+    ensures { IsTrue result → IsSettled marked.now row }
+{
+    marked.known[row] || !marked.members.contains(&row)
 }

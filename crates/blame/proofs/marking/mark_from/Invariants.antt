@@ -1,13 +1,13 @@
 use Rattle.std.proofs.Common.{◌≡◌, ℕ, List, length}
 use Rattle.hall.specs.Needed.{AreKnown}
 use Rattle.blame.specs.Marking.{IsOwned, IsMarking, AreQueued, is_marked}
-use Rattle.blame.proofs.marking.mark.Given as goal
+use Rattle.blame.proofs.marking.mark_from.Given as goal
 
 abbrev pub invariant-loop-step : goal.invariant-loop-step
 invariant-loop-step l = record {
   marking : (members : List ℕ) → IsOwned l.rows members l.part.own.items l.part.root l.part.lacking
       → AreKnown l.rows members l.part.root (is_marked l.initial.known)
-      → IsMarking l.rows members l.part.own.items l.part.root l.known l.seen l.of_row.items;
+      → IsMarking l.rows members l.part.own.items l.part.root l.known l.seen l.of_row;
   queued : AreQueued l.known l.queue.items;
-  long : length l.of_row.items ≡ length l.known;
+  long : length l.of_row ≡ length l.known;
 }
