@@ -52,7 +52,8 @@ fn asked_by(rows: &[Row], members: &[usize]) -> u64
 {
     let mut asked = 0u64;
     for k in members {
-        asked = asked.saturating_add(u64::from(rows[*k].demand));
+        let row = &rows[*k];
+        asked = asked.saturating_add(u64::from(row.demand));
     }
     asked
 }
@@ -67,7 +68,8 @@ fn offered_behind(alloc: Global, rows: &[Row], members: &[usize]) -> Result<Vec<
     for back in 0..members.len() {
         let at = members.len() - 1 - back;
         behind[at] = offered;
-        offered = offered.union(&rows[members[at]].offers.cpus());
+        let row = &rows[members[at]];
+        offered = offered.union(&row.offers.cpus());
     }
     Ok(behind)
 }

@@ -34,7 +34,8 @@ pub(crate) fn lower_last(
 {
     let rows = problem.rows.as_slice();
     let root = members[members.len() - 1];
-    let demand = rows[root].demand;
+    let row = &rows[root];
+    let demand = row.demand;
     let lacking = lacking_of(problem, members, demand);
     let asked = demand - lacking;
     let numbers = askers(alloc, members, root, asked)?;

@@ -1,12 +1,12 @@
 //! Who is needed in a shortage, by who holds what.
-ghost use Rattle.std.specs.Prelude.{◌≡◌, ℕ, true, false, List, length, slice_index, OnOk, IfOk};
+ghost use Rattle.std.specs.Prelude.{◌≡◌, ℕ, ◌≤◌, true, false, List, length, slice_index, OnOk, IfOk};
 ghost use Rattle.std.specs.FinSet as set;
 ghost use Rattle.cpu_set.specs.Members.{IsCpu};
 ghost use Rattle.certificate.specs.RowView.{RowView};
 ghost use Rattle.hall.specs.Needed.{AreKnown, IsOpenToKnown};
 ghost use Rattle.blame.specs.Marking.{IsOwned, IsMarking, IsMore, AreQueued, is_marked};
 
-use certificate::Row;
+use certificate::{MAX_ROWS, Row};
 use cpu_set::{CPU_LIMIT, IdSet};
 use std::alloc::{AllocError, Global};
 
@@ -33,6 +33,7 @@ pub(crate) fn mark(
 ) -> Result<(), AllocError>
     requires own { length part.now.own.items ≡ CPU_LIMIT }
     requires long { length known.old ≡ length rows.now }
+    requires few { length rows.now ≤ MAX_ROWS }
     ensures { OnOk result ((members : List ℕ)
         → IsOwned rows.now members part.now.own.items part.now.root part.now.lacking
         → AreKnown rows.now members part.now.root (is_marked known.old)
@@ -53,6 +54,7 @@ fn mark_from(
 ) -> Result<(), AllocError>
     requires own { length part.now.own.items ≡ CPU_LIMIT }
     requires long { length known.old ≡ length rows.now }
+    requires few { length rows.now ≤ MAX_ROWS }
     requires as_long { length of_row.old ≡ length known.old }
     requires none { (k : ℕ) → slice_index of_row.old k ≡ 0 }
     requires queued { AreQueued known.old queue.old.items }
@@ -63,10 +65,12 @@ fn mark_from(
 {
     let mut seen = IdSet::empty();
     for step in 0..rows.len() {
-        if step >= queue.len() {
+        let count = queue.len();
+        if step >= count {
             return Ok(());
         }
-        let row = &rows[queue[step]];
+        let next = queue[step];
+        let row = &rows[next];
         let cpus = row.offers.cpus();
         see_row(&cpus, part, known, &mut seen, of_row, queue)?;
     }

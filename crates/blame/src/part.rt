@@ -82,7 +82,8 @@ fn asked_at(rows: &[Row], k: usize, root: usize, demand: u32) -> u32
     requires { k < length rows.now }
     ensures { result ≡ asked_at rows.now root demand k }
 {
-    if k == root { demand } else { rows[k].demand }
+    let row = &rows[k];
+    if k == root { demand } else { row.demand }
 }
 
 /// A row that may have the same CPUs, all at one weight.

@@ -1,5 +1,5 @@
 //! From a shortage to one of which no member can be left out.
-ghost use Rattle.std.specs.Prelude.{◌≡◌, ℕ, ◌<◌, true, IfOk, IsTrue, OnOk, length};
+ghost use Rattle.std.specs.Prelude.{◌≡◌, ℕ, ◌<◌, ◌≤◌, true, List, IfOk, IsTrue, OnOk, length};
 ghost use Rattle.certificate.specs.AreWithin.{AreRowsWithin};
 ghost use Rattle.certificate.specs.IsShortage.{IsShortage};
 ghost use Rattle.certificate.specs.Limits.{rows_fit};
@@ -12,7 +12,7 @@ use crate::counting::leave_out_by_count;
 use crate::lowering::{Lowered, lower_last};
 use crate::marking::{PartPlan, mark};
 use crate::part::{PartAnswer, others, solve_part};
-use certificate::{Problem, Row};
+use certificate::{MAX_ROWS, Problem, Row};
 use std::alloc::{AllocError, Global};
 
 /// A shortage, and for each row whether it is known to be needed.
@@ -76,6 +76,7 @@ fn mark_some(alloc: Global, problem: &Problem, members: &[usize]) -> Result<Mark
 fn marks_of(alloc: Global, rows: &[Row], part: &PartPlan) -> Result<Vec<bool>, AllocError>
     requires own { length part.now.own.items ≡ CPU_LIMIT }
     requires root { part.now.root < length rows.now }
+    requires few { length rows.now ≤ MAX_ROWS }
     ensures long { IfOk result (λ known. length known.items ≡ length rows.now) }
     ensures needed { IfOk result (λ known. (members : List ℕ)
         → IsOwned rows.now members part.now.own.items part.now.root part.now.lacking

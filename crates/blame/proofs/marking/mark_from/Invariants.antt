@@ -10,4 +10,5 @@ invariant-loop-step l = record {
       → IsMarking l.rows members l.part.own.items l.part.root l.known l.seen l.of_row;
   queued : AreQueued l.known l.queue.items;
   long : length l.of_row ≡ length l.known;
+  as_rows : length l.known ≡ length l.rows;
 }
