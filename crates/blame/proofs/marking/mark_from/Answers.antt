@@ -34,12 +34,12 @@ loop-step-preserved c =
     let on = queued_row c.loop-step.known c.loop-step.queue.items c.loop-step.step c.index-next.result.now was.queued
     (omega (arith, c.if-step-count.false, c.len-count.ensures, c.loop-step.queue.ok.0)) c.index-next.ensures in
     let lt : c.index-next.result.now < length c.args.rows.now = omega (arith, marked_below c.loop-step.known c.index-next.result.now on, was.as_rows) in
-    let its : (q : ℕ) → set.contains c.cpus.result q ≡ is_some (weight c.index-rows-next.result q) =
-    λ q. c.cpus.ensures q ∙ ap (λ offers. is_some (weight_in offers q)) (ap (λ (r : RowView). r.offers) c.row.view_is) in
+    let its : (q : ℕ) → set.contains c.cpus-cpus.result q ≡ is_some (weight c.index-rows-next.result q) =
+    λ q. c.cpus-cpus.ensures q ∙ ap (λ offers. is_some (weight_in offers q)) (ap (λ (r : RowView). r.offers) c.row.view_is) in
     record {
       marking = λ members owned known_are.
           c.in_ok-see_row.ensures.marking c.args.rows.now members owned (was.marking members owned known_are)
-          (open_to_row c.args.rows.now c.loop-step.known c.cpus.result c.index-next.result.now c.index-rows-next.result on lt c.index-rows-next.is its);
+          (open_to_row c.args.rows.now c.loop-step.known c.cpus-cpus.result c.index-next.result.now c.index-rows-next.result on lt c.index-rows-next.is its);
       queued = c.in_ok-see_row.ensures.queued was.queued;
       long = omega (arith, was.long, c.see_row.auto.known, c.see_row.auto.of_row);
       as_rows = omega (arith, was.as_rows, c.see_row.auto.known);
