@@ -1,4 +1,4 @@
-use Rattle.std.proofs.Common.{◌≡◌, replicate, rules, ap, ◌∙◌, arith, length}
+use Rattle.std.proofs.Common.{◌≡◌, get_or, refl, replicate, rules, ap, ◌∙◌, arith, length}
 use Rattle.std.specs.FinSet as set
 use Rattle.std.proofs.lemmas.List.{get_or_default, length-replicate}
 use Rattle.cpu_set.specs.declared.TheConstants.{CPU_LIMIT}
@@ -16,9 +16,9 @@ loop-i-init c =
 pub loop-i-preserved : goal.loop-i-preserved
 loop-i-preserved c = record {
   so_far =
-      owners_more c.args.numbers.now c.args.sets.now c.args.nobody c.loop-i.i c.index-sets-i.result c.index-numbers-i.result.now c.loop-i.own.items c.note.new.own.items
+      owners_more c.args.numbers.now c.args.sets.now c.args.nobody c.loop-i.i c.index-sets-i.result (get_or c.args.numbers.now c.loop-i.i 0) c.loop-i.own.items c.note.new.own.items
       c.loop-i.invariant.so_far (c.index-sets-i.is ∙ get_or_default c.args.sets.now c.loop-i.i c.index-sets-i.result set.empty c.loop-i-test.true)
-      c.index-numbers-i.ensures c.requires.apart c.loop-i-test.true c.note.ensures.noted;
+      refl c.requires.apart c.loop-i-test.true c.note.ensures.noted;
   long = c.note.ensures.long;
 }
 
