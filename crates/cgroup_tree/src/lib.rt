@@ -7,7 +7,7 @@
 //! # Proved
 //!
 //! - `MirroredKernel` meets the trait `Kernel`. Its meaning is the modelled kernel's; writes that never came to the
-//!   model count as writes and failures. So all that is proved of failing writes holds of it.
+//!   model are told and counted as failures. So all that is proved of failing writes holds of it.
 //! - What each writing call asks of the tree's files is its contract, on top of the trait's (`Mirrors`,
 //!   `MirrorsLooks`, `MirrorsBoth`). If it is Ok, it asked for exactly the write that it stands for, and that was
 //!   done. If it failed, it asked for that write and was refused; a group that is made may fail with nothing asked.
