@@ -4,7 +4,7 @@ use Rattle.std.proofs.lemmas.Bool.{false≢true}
 use Rattle.std.specs.Prelude.{Option, Result, Ok, Err, IfErr}
 use Rattle.kernel_model.specs.declared.KernelFault.{KernelFault}
 use Rattle.kernel_model.specs.declared.KernelFault.TheVariants.{Failed}
-use Rattle.kernel_model.specs.KernelState.{KernelState}
+use Rattle.kernel_model.specs.KernelState.{KernelState, writes}
 use Rattle.kernel_model.specs.Cases.{rise}
 use Rattle.apply_plan.specs.declared.Progress.{Progress}
 use Rattle.apply_plan.specs.declared.Progress.TheVariants.{More, Done}
@@ -32,8 +32,8 @@ pub record Settles (o : Ongoing) (old new : NodeState) : Type 0 where
   pub table : new.kernel.table ≡ old.kernel.table
   pub online : new.kernel.tree.online ≡ old.kernel.tree.online
   pub failures : new.kernel.failures ≡ old.kernel.failures
-  pub made : o.order ≡ InTurn → new.kernel.writes ≡ old.kernel.writes + writes_to_come o.targets old.kernel
-  pub few : new.kernel.writes ≤ old.kernel.writes + left_of o old.kernel
+  pub made : o.order ≡ InTurn → writes new.kernel ≡ writes old.kernel + writes_to_come o.targets old.kernel
+  pub few : writes new.kernel ≤ writes old.kernel + left_of o old.kernel
   pub machine : new.machine ≡ old.machine
   pub parent : new.parent ≡ old.parent
   pub containers : new.containers ≡ old.containers
@@ -48,7 +48,7 @@ pub record Breaks (o : Ongoing) (fault : KernelFault) (old new : NodeState) : Ty
   pub broken : IsBroken o old.kernel new.kernel
   pub failed : fault ≡ Failed
   pub failures : new.kernel.failures ≡ old.kernel.failures + 1
-  pub few : new.kernel.writes ≤ old.kernel.writes + left_of o old.kernel + 1
+  pub few : writes new.kernel ≤ writes old.kernel + left_of o old.kernel + 1
   pub machine : new.machine ≡ old.machine
   pub parent : new.parent ≡ old.parent
   pub containers : new.containers ≡ old.containers
@@ -65,7 +65,7 @@ record Ended (o : Ongoing) (old : NodeState) (r : Result Progress KernelFault) (
   done : r ≡ Ok Done → HaveTargets new.kernel o.targets.entries
   failures : new.kernel.failures ≡ old.kernel.failures + rise r
   failed : IfErr r (λ fault. fault ≡ Failed)
-  spends : new.kernel.writes + left_of o new.kernel ≤ old.kernel.writes + left_of o old.kernel + rise r
+  spends : writes new.kernel + left_of o new.kernel ≤ writes old.kernel + left_of o old.kernel + rise r
   exact : o.order ≡ InTurn → Spends o.targets old.kernel (rise r) new.kernel
   spent : o.order ≡ InTurn → r ≡ Ok Done → writes_to_come o.targets new.kernel ≡ 0
   is : new ≡ record old { kernel = new.kernel; phase = phase; ongoing = None }
@@ -96,8 +96,8 @@ module _ (law : OrdersLeave) (o : Ongoing) where
         let left = leaves law old h o was mid.kernel (Ok More) steps in
         let first : mid.kernel.failures ≡ old.kernel.failures + 0 = left.counted in
         let later : new.kernel.failures ≡ mid.kernel.failures + rise r = e.failures in
-        let one : mid.kernel.writes + left_of o mid.kernel ≤ old.kernel.writes + left_of o old.kernel + 0 = left.spends in
-        let others : new.kernel.writes + left_of o new.kernel ≤ mid.kernel.writes + left_of o mid.kernel + rise r = e.spends in
+        let one : writes mid.kernel + left_of o mid.kernel ≤ writes old.kernel + left_of o old.kernel + 0 = left.spends in
+        let others : writes new.kernel + left_of o new.kernel ≤ writes mid.kernel + left_of o mid.kernel + rise r = e.spends in
         record {
           node = e.node;
           ongoing = subst (λ (n : NodeState). IsOngoing new.kernel (owners_of n.containers) o) s.is e.ongoing;
@@ -125,7 +125,7 @@ module _ (law : OrdersLeave) (o : Ongoing) where
   settles old new h was f =
       let e = all_steps (Ok Done) Settled refl f.steps old f.mid new h was f.more f.ends in
       let failures : new.kernel.failures ≡ old.kernel.failures + 0 = e.failures in
-      let spends : new.kernel.writes + left_of o new.kernel ≤ old.kernel.writes + left_of o old.kernel + 0 = e.spends in
+      let spends : writes new.kernel + left_of o new.kernel ≤ writes old.kernel + left_of o old.kernel + 0 = e.spends in
       record {
         node = e.node;
         targets = e.done refl;
@@ -157,8 +157,8 @@ module _ (law : OrdersLeave) (o : Ongoing) where
         broken = record { since = e.ongoing.since; rest = e.rest };
         failed = failed;
         failures = failures;
-        few = (let spends : new.kernel.writes + left_of o new.kernel ≤ old.kernel.writes + left_of o old.kernel + 1 =
-            subst (λ n. new.kernel.writes + left_of o new.kernel ≤ old.kernel.writes + left_of o old.kernel + n) (ap (λ x. rise {A = Progress} (Err x)) failed) e.spends in
+        few = (let spends : writes new.kernel + left_of o new.kernel ≤ writes old.kernel + left_of o old.kernel + 1 =
+            subst (λ n. writes new.kernel + left_of o new.kernel ≤ writes old.kernel + left_of o old.kernel + n) (ap (λ x. rise {A = Progress} (Err x)) failed) e.spends in
             omega (arith, spends));
         machine = ap (λ (n : NodeState). n.machine) e.is;
         parent = ap (λ (n : NodeState). n.parent) e.is;

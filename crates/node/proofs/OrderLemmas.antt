@@ -11,7 +11,7 @@ use Rattle.kernel_model.specs.declared.KernelFault.{KernelFault}
 use Rattle.kernel_model.specs.declared.KernelFault.TheVariants.{Failed}
 use Rattle.kernel_model.specs.declared.Call.{Call}
 use Rattle.kernel_model.specs.declared.Reply.{Reply}
-use Rattle.kernel_model.specs.KernelState.{KernelState}
+use Rattle.kernel_model.specs.KernelState.{KernelState, writes}
 use Rattle.kernel_model.specs.Cases.{rise}
 use Rattle.kernel_model.specs.Laws.{StepKeeps}
 use Rattle.kernel_model.specs.Runs as kernel
@@ -65,8 +65,8 @@ pub record StepLeft (order : Order) (m : Layout) (o : Ongoing) (old : KernelStat
   pub since : o.targets.reserved ≡ old.reserved → AreSince order old o → AreSince order new o
   pub counted : new.failures ≡ old.failures + rise r
   pub failed : IfErr r (λ fault. fault ≡ Failed)
-  pub made : new.writes ≡ old.writes + made_by order m o old
-  pub spends : new.writes + left_by order o.targets new ≤ old.writes + left_by order o.targets old + rise r
+  pub made : writes new ≡ writes old + made_by order m o old
+  pub spends : writes new + left_by order o.targets new ≤ writes old + left_by order o.targets old + rise r
   pub exact : order ≡ InTurn → Spends o.targets old (rise r) new
   pub spent : order ≡ InTurn → r ≡ Ok Done → writes_to_come o.targets new ≡ 0
   pub squeezes : order ≡ Directly → SqueezesOnlyStuck (directed_of o) (least_cores m) old new

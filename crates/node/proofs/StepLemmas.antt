@@ -6,7 +6,7 @@ use Rattle.std.specs.List.{AllByRecursion}
 use Rattle.cpuset_tree.specs.declared.Group.{Group}
 use Rattle.cpuset_tree.specs.Groups.{same_group, is_root_entry, cpus_in, mems_in}
 use Rattle.kernel_model.specs.declared.KernelFault.{KernelFault}
-use Rattle.kernel_model.specs.KernelState.{KernelState}
+use Rattle.kernel_model.specs.KernelState.{KernelState, writes}
 use Rattle.apply_plan.specs.declared.Progress.{Progress}
 use Rattle.apply_plan.specs.declared.Progress.TheVariants.{More, Done}
 use Rattle.apply_plan.specs.Holders.{IsSafe}
@@ -236,7 +236,7 @@ pub record Says (old : NodeState) (o : Ongoing) (r : Result Progress NodeFault) 
   pub falls : r ≡ Ok More → FallsBy o.order o.targets old.kernel new.kernel
   pub done : r ≡ Ok Done → HaveTargets new.kernel o.targets.entries
   pub broken : OnErr r (IsBroken o old.kernel new.kernel)
-  pub made : new.kernel.writes ≡ old.kernel.writes + made_by o.order old.machine o old.kernel
+  pub made : writes new.kernel ≡ writes old.kernel + made_by o.order old.machine o old.kernel
   pub squeezes : o.order ≡ Directly → SqueezesOnlyStuck (directed_of o) (least_cores old.machine) old.kernel new.kernel
 
 module _ (law : OrdersLeave) (old : NodeState) (h : IsNode old) where

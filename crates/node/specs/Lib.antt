@@ -34,6 +34,8 @@ pub mod Questions
 pub mod Standing
 pub mod Disturbs
 pub mod Machine
+pub mod Told
+pub mod ToldLemmas
 pub mod Retries
 pub mod Said
 pub mod Served

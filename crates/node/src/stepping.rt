@@ -1,5 +1,6 @@
 //! The hand-over that is open, write by write.
 ghost use Rattle.std.specs.Prelude.{◌≡◌, ◌+◌, ◌*◌, ◌≤◌, length, Some, OnErr};
+ghost use Rattle.kernel_model.specs.KernelState.{writes};
 ghost use Rattle.apply_plan.specs.DueWrite.{HaveTargets};
 ghost use Rattle.apply_plan.specs.Squeezes.{SqueezesOnlyStuck};
 ghost use Rattle.node.specs.LeastCores.{least_cores};
@@ -58,7 +59,7 @@ impl<K: Kernel + Drop> Node<K> {
             → FallsBy o.order o.targets self.old.kernel self.new.kernel }
         // It makes one writing call if a write is due, and else none.
         ensures made { (o : Ongoing) → self.old.ongoing ≡ Some o
-            → self.new.kernel.writes ≡ self.old.kernel.writes + made_by o.order self.old.machine o self.old.kernel }
+            → writes self.new.kernel ≡ writes self.old.kernel + made_by o.order self.old.machine o self.old.kernel }
         // After the last, each live container has what the plan gave it.
         ensures done { result ≡ Ok Progress.Done → (o : Ongoing) → self.old.ongoing ≡ Some o
             → HaveTargets self.new.kernel o.targets.entries }
