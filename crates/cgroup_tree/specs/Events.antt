@@ -102,12 +102,13 @@ module _ (site : Site) where
       × Past past old before × Happens old event k × AsksFor site.root site.memory site.partition old event k these × (asked ≡ these ++ before)
 
 -- all that was asked of the files is what the calls of the kernel stand for, in their order, from its beginning on. The writing
--- calls among these are just those that the kernel was asked for (`PastsAreTold`). The files are opened so, and keep other
+-- calls among these are just those that the kernel was asked for. The files are opened so, and keep other
 -- programs from the root.
 pub record IsMirrored {F : Type 0} (asked : F → Opening → List Asked → Type 0) (site : Site) (k : KernelState) (files : F) : Type 0 where
   pub past : List Event
   pub calls : List Asked
   pub was : Past site past k calls
+  pub told : writes_among past ≡ k.trace
   pub made : asked files (opening site) calls
 
 -- a mirrored kernel that has this root, these nodes with memory, and a root that has to be a partition root or not

@@ -15,7 +15,7 @@ use Rattle.cgroup_tree.specs.Mirrored.{mirrored, Mirrors, MirrorsAt, MirrorsBoth
 use Rattle.cgroup_tree.specs.Events.{Event, Happens, IsAsked, IsAskedAt, AreAsked, AreAskedAndLooked, AsksFor, Past, IsMirrored, IsMirroredAt}
 use Rattle.cgroup_tree.specs.Site.{Beginning, Begins, Site, opening}
 use Rattle.cgroup_tree.specs.Stands.{FilesStand}
-use Rattle.cgroup_tree.specs.PastLemmas.{past_kept, pasts_stand}
+use Rattle.cgroup_tree.specs.PastLemmas.{past_kept, pasts_stand, pasts_are_told}
 use Rattle.cgroup_tree.specs.FirstLemmas.{first_mirrored}
 
 -- some calls more, which are these
@@ -71,6 +71,7 @@ goes_on asked site root root' memory memory' partition partition' k new files af
         past = event ∷ was.past;
         calls = more.these ++ was.calls;
         was = (k, was.calls, more.these, was.was, happens, are, refl);
+        told = pasts_are_told site (event ∷ was.past) new (more.these ++ was.calls) (k, was.calls, more.these, was.was, happens, are, refl);
         made = more.asks (opening site) was.calls was.made;
       };
       root_is = same.0 ∙ held.root_is;
@@ -111,6 +112,7 @@ starts asked site root memory partition trace k inner files is none_told well fi
           },
           refl,
         );
+        told = sym (first_mirrored b.present b.reserved b.online b.nodes b.first_pid trace k none_told (subst (λ (x : KernelState). Begins b x) (sym is) first)).none_written;
         made = none;
       };
       root_is = root_is;

@@ -27,6 +27,7 @@ pub mod Tells
 pub mod BreaksOff
 pub mod RebalanceLeaves
 pub mod Written
+pub mod RebalancesBy
 pub mod Asking
 pub mod WithoutCores
 pub mod Proved

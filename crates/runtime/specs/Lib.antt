@@ -10,4 +10,5 @@ pub mod ScriptLaws
 pub mod ConfigsServed
 pub mod CertificatesTold
 pub mod MirroredNodes
+pub mod ScriptTold
 pub mod Partition

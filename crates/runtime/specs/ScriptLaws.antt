@@ -214,7 +214,7 @@ Run-append : (old mid new : NodeState) (first later : List Event) → Run old fi
 Run-append old mid new [] later e run = subst (λ n. Run n later new) e run
 Run-append old mid new (event ∷ first) later (next, step, rest) run = (next, step, Run-append next mid new first later rest run)
 
-is_call : (sees : Sees) (old : NodeState) (command : Asked) (text : List ℕ) (new : NodeState) → AnswersBy sees old command text new
+pub is_call : (sees : Sees) (old : NodeState) (command : Asked) (text : List ℕ) (new : NodeState) → AnswersBy sees old command text new
     → IsCall sees command old text new ⊎ IsNoCall sees command old text new
 is_call sees old (ask.create id bundle) text new (inl h) = inr (inl h.0, h.1)
 is_call sees old (ask.create id bundle) text new (inr (None, found, h)) = inr (inr (h.0, found), h.1)
