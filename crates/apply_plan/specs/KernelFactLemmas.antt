@@ -43,7 +43,7 @@ placed_alike_tree old new entries same placed =
 -- one writing call more, if there was a write
 pub missed_makes : (d : Option Write) (k : KernelState) → writes (missed d k) ≡ writes k + cond (is_some d) 1 0
 missed_makes None k = omega arith
-missed_makes (Some w) k = refl
+missed_makes (Some w) k = omega arith
 
 -- after a write that was made, if there was one, all that was placed is
 pub made_is_placed : (old new : KernelState) (d : Option Write) (r : Result (Unit {0}) KernelFault) → IsMadeIfAny d old r new → (entries : List Entry) → ArePlaced old entries

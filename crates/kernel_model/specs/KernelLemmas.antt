@@ -553,7 +553,8 @@ tells_each_write old (EndedGroup g r) new = Writes-told (end_refusal old g) (End
 
 -- the count of writes
 one_written : (old : KernelState) (call : WritingCall) (new : KernelState) → IsMade old call new → writes new ≡ writes old + 1
-one_written old call new made = ap (length {A = WritingCall}) (tells_each_write old call new made)
+one_written old call new made =
+    let told : length new.trace ≡ length old.trace + 1 = ap (λ (t : List WritingCall). length t) (tells_each_write old call new made) in omega (arith, told)
 
 pub counts_each_write : CountsEachWrite
 counts_each_write = record {
