@@ -30,11 +30,13 @@ abbrev pub has_failed : {A : Type 0} → Result A KernelFault → Bool
 has_failed (Ok value) = false
 has_failed (Err fault) = is_failed fault
 
+-- the same of a call that allocates
 abbrev pub has_failed_or_memory : {A : Type 0} → Result A (OrMemory KernelFault) → Bool
 has_failed_or_memory (Ok value) = false
 has_failed_or_memory (Err Memory) = false
 has_failed_or_memory (Err (Fault fault)) = is_failed fault
 
+-- whether a call is a write that failed
 abbrev pub is_failure : WritingCall → Bool
 is_failure (MadeGroup parent name r) = has_failed_or_memory r
 is_failure (RemovedGroup g r) = has_failed r
@@ -134,6 +136,7 @@ from_parts-to_parts (WroteMems g mems r) = refl
 from_parts-to_parts (Spawned g r) = refl
 from_parts-to_parts (EndedGroup g r) = refl
 
+-- and a list of them as a list
 abbrev pub trace_code : Coded (List WritingCall)
 trace_code = coded_list (
 code_by Parts (coded⊎ (coded× group_code (coded× (coded_list coded_ℕ) (coded_result group_code error_code))) (

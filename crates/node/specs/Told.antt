@@ -90,6 +90,7 @@ rewrites_told old reserved c asked r new (inl (fault, refused, is)) = if_made (g
 rewrites_told old reserved c asked r new (inr (done, mid, first, second)) =
     if_made (moves_home c.demand asked) (WroteMems c.group asked.homes r) ++ if_made (gives_way old reserved c asked) (WroteCpus c.group reserved (Ok done))
 
+-- `update`; none if it is refused before the kernel is called
 abbrev pub update_told : (old : NodeState) (id bundle config : List ℕ) (r : Result (Unit {0}) (OrMemory NodeFault)) (new : NodeState)
     → Updates old id bundle config r new → List WritingCall
 update_told old id bundle config (Ok done) new u = rewrites_told old.kernel old.machine.reserved u.container u.asked (Ok tt) new.kernel u.rewrites
@@ -106,10 +107,11 @@ group_told call (Err (Kernel fault)) (Some c) = call c.group (Err fault) ∷ []
 group_told call (Err (Kernel fault)) None = []
 group_told call (Err fault) c = []
 
--- `kill` and `delete`
+-- `kill`
 abbrev pub kill_told : NodeState → List ℕ → Result (Unit {0}) NodeFault → List WritingCall
 kill_told old id r = group_told EndedGroup r (container_of old id)
 
+-- `delete`
 abbrev pub delete_told : NodeState → List ℕ → Result (Unit {0}) NodeFault → List WritingCall
 delete_told old id r = group_told RemovedGroup r (container_of old id)
 
@@ -126,6 +128,7 @@ stepped_told m k (Err (Kernel fault)) (Some o) = asks_for (due_by o.order m o k)
 stepped_told m k (Err (Kernel fault)) None = []
 stepped_told m k (Err fault) o = []
 
+-- `step`
 abbrev pub step_told : NodeState → Result Progress NodeFault → List WritingCall
 step_told old r = stepped_told old.machine old.kernel r old.ongoing
 

@@ -30,6 +30,7 @@ call_told sees command old text new (inl call) = event_told old call.event new c
 call_told sees command old text new (inr none) = []
 
 module _ (sees : Told → Sees) where
+  -- what is wanted of a line; one that is bad or empty makes none
   abbrev pub request_told : (old : RuntimeState) (wanted : Wanted) (text : List ℕ) (new : RuntimeState) → AnswersRequest (AnsweredWhere sees) old wanted text new
       → List WritingCall
   request_told old nothing text new none = []
