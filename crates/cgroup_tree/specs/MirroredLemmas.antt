@@ -112,7 +112,7 @@ starts asked site root memory partition trace k inner files is none_told well fi
           },
           refl,
         );
-        told = sym (first_mirrored b.present b.reserved b.online b.nodes b.first_pid trace k none_told (subst (λ (x : KernelState). Begins b x) (sym is) first)).none_written;
+        told = sym none_told;
         made = none;
       };
       root_is = root_is;
