@@ -138,9 +138,11 @@ from_parts-to_parts (EndedGroup g r) = refl
 
 -- and a list of them as a list
 abbrev pub trace_code : Coded (List WritingCall)
-trace_code = coded_list (
-code_by Parts (coded⊎ (coded× group_code (coded× (coded_list coded_ℕ) (coded_result group_code error_code))) (
-coded⊎ (coded× group_code answer_code) (
-coded⊎ (coded× group_code (coded× ids_code answer_code)) (
-coded⊎ (coded× group_code (coded× ids_code answer_code)) (
-coded⊎ (coded× group_code (coded_result coded_ℕ error_code)) (coded× group_code answer_code)))))) to_parts from_parts from_parts-to_parts)
+trace_code =
+    coded_list (
+    code_by Parts (coded⊎ (coded× group_code (coded× (coded_list coded_ℕ) (coded_result group_code error_code))) (
+    coded⊎ (coded× group_code answer_code) (
+    coded⊎ (coded× group_code (coded× ids_code answer_code)) (
+    coded⊎ (coded× group_code (coded× ids_code answer_code)) (
+    coded⊎ (coded× group_code (coded_result coded_ℕ error_code)) (coded× group_code answer_code))))))
+    to_parts from_parts from_parts-to_parts)

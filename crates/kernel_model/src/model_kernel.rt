@@ -116,11 +116,7 @@ impl ModelKernel {
     }
 
     /// Makes a group in the tree.
-    fn make_group_body(
-        &mut self,
-        parent: Group,
-        name: &str,
-    ) -> Result<Group, OrMemory<KernelFault>>
+    fn make_group_body(&mut self, parent: Group, name: &str) -> Result<Group, OrMemory<KernelFault>>
         ensures { MakesIn self.old parent name.now result self.new }
     {
         self.tree.make(parent, name).map_err(of_tree)
