@@ -24,7 +24,7 @@ INNER = re.compile(r"^ +(?:pub )?(?:abbrev|unfoldable|record|data) ")
 USE = re.compile(r"^ *(?:ghost )?use Rattle\.(\w+)\.specs\.([\w.]+?)(?:\.\{(.*)\}| as (\w+));?$")
 
 # A title, a crate, a file of src/, a function there, and its clauses, with those of its `requires` that are part of the claim; a
-# clause without a name is "".
+# clause without a name is "". Where the one clause is a record, its fields are the clauses.
 CLAUSES = [
     ("check_plan", "certificate", "checks.rt", "check_plan", "least"),
     ("check", "certificate", "checking.rt", "check", "best"),
@@ -154,6 +154,16 @@ def type_of(page):
     return parts[-2] if parts[-1] == "TheVariants" else parts[-1]
 
 
+def of_field(place, field):
+    """What the words of this field of a record stand for."""
+    crate, page, name = place
+    path = TOP / "crates" / crate / "specs" / (page.replace(".", "/") + ".antt")
+    read = Page(path) if path.is_file() else None
+    lines = read.definitions[name][1] if read and name in read.definitions else []
+    text = next((line for line in lines if line.lstrip().startswith(f"pub {field} :")), "")
+    return [read.words[word] for word in WORD.findall(text) if word in read.words]
+
+
 def roots(crate, file, function, clause):
     """What the words of these clauses of a function in src/ stand for."""
     path = TOP / "crates" / crate / "src" / file
@@ -162,6 +172,11 @@ def roots(crate, file, function, clause):
     words, named = imports(text.splitlines()), []
     for name in clause.split() or [""]:
         found = re.compile(rf"\b(?:requires|ensures) {f'{name} ' if name else ''}{{").search(text, at.start()) if at else None
+        whole = re.compile(r"\bensures {(.*)}\n").search(text, at.start()) if at else None
+        if name and whole and (not found or whole.start() < found.start()):
+            fields = [place for word in WORD.findall(whole.group(1)) if word in words for place in of_field(words[word], name)]
+            if fields:
+                return fields
         if not found or "\nfn " in text[at.start():found.start()] or "\npub fn " in text[at.start():found.start()]:
             sys.exit(f"{crate}/src/{file}: {function} has no clause {name or 'without a name'}")
         named += WORD.findall(text[found.start():text.index("}\n", found.start())])
