@@ -109,11 +109,7 @@ impl<F: GroupFiles> Mirror<F> {
     }
 
     /// Makes a group in the model.
-    fn make_in_model(
-        &mut self,
-        parent: Group,
-        name: &str,
-    ) -> Result<Group, OrMemory<KernelFault>>
+    fn make_in_model(&mut self, parent: Group, name: &str) -> Result<Group, OrMemory<KernelFault>>
         ensures case { MakesGroup (mirrored self.old.trace.calls self.old.inner) parent name.now result
             (mirrored self.new.trace.calls self.new.inner) }
         ensures model { MakesGroup self.old.inner parent name.now result self.new.inner }

@@ -182,8 +182,16 @@ fn run<'a>(alloc: Global) -> Result<Command<'a>, AllocError>
         .arg(machine(alloc))?
         .arg(table(alloc))?
         .arg(cgroup(alloc))?
-        .arg(flag(alloc, "adopt", "With --cgroup: ROOT/numarun may be there already"))?
-        .arg(flag(alloc, "partition", "With --cgroup: ROOT has to be a partition root"))
+        .arg(flag(
+            alloc,
+            "adopt",
+            "With --cgroup: ROOT/numarun may be there already",
+        ))?
+        .arg(flag(
+            alloc,
+            "partition",
+            "With --cgroup: ROOT has to be a partition root",
+        ))
 }
 
 fn solve<'a>(alloc: Global) -> Result<Command<'a>, AllocError>
