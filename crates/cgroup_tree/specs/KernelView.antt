@@ -2,7 +2,8 @@
 use Rattle.std.specs.Prelude.{ℕ, Bool, List, refl}
 use Rattle.std.specs.Coded.{Coded, code_by, coded×, coded_bool, coded_ℕ, coded_list}
 use Rattle.cpu_set.specs.Ids.{Ids, ids_code}
-use Rattle.kernel_model.specs.Trace.{WritingCall, trace_code}
+use Rattle.kernel_model.specs.Trace.{WritingCall}
+use Rattle.kernel_model.specs.TraceCodeLemmas.{trace_code}
 use Rattle.kernel_model.specs.KernelState.{KernelState, kernel_code}
 
 -- the path of the root group's folder, the nodes that have memory, whether the root has to be a partition root, the model, the

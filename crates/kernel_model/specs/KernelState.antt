@@ -6,7 +6,8 @@ use Rattle.cpuset_tree.specs.TreeState.{TreeState, tree_code}
 use Rattle.cpuset_tree.specs.TreeChanges.{IsFirstTree}
 use Rattle.proctable.specs.TableState.{TableState, table_code}
 use Rattle.proctable.specs.TableChanges.{first_table as table_at}
-use Rattle.kernel_model.specs.Trace.{WritingCall, trace_code}
+use Rattle.kernel_model.specs.Trace.{WritingCall}
+use Rattle.kernel_model.specs.TraceCodeLemmas.{trace_code}
 
 -- the groups with what they request, the online CPUs, the nodes and the next serial; the live processes with their groups
 -- and first processes, and the next pid; the present CPUs and those of them that are reserved; how many writes failed; and

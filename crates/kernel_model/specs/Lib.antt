@@ -16,6 +16,7 @@ pub use Rattle.proctable.specs.TableLemmas
 pub mod FaultTitle
 pub mod Faults
 pub mod Trace
+pub mod TraceCodeLemmas
 pub mod Told
 pub mod KernelState
 pub mod Refusals

@@ -1,7 +1,8 @@
 //! What a kernel was asked: a list that only proofs read.
 ghost use Rattle.std.specs.Prelude.{◌≡◌, List, [], ◌∷◌};
 ghost use Rattle.std.specs.Borrow.{ftrue};
-ghost use Rattle.kernel_model.specs.Trace.{WritingCall, trace_code};
+ghost use Rattle.kernel_model.specs.Trace.{WritingCall};
+ghost use Rattle.kernel_model.specs.TraceCodeLemmas.{trace_code};
 
 use crate::KernelFault;
 use cpu_set::IdSet;

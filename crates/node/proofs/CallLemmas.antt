@@ -15,7 +15,6 @@ use Rattle.kernel_model.specs.KernelState.{KernelState}
 use Rattle.kernel_model.specs.Refusals.{end_refusal}
 use Rattle.kernel_model.specs.RefusalLemmas.{calls_are_free}
 use Rattle.kernel_model.specs.Cases.{EndsGroup, RemovesGroup, EndsGroupOf}
-use Rattle.proctable.specs.TableChanges.{ended_in}
 use Rattle.demand.specs.declared.Demand.{Demand as Asked}
 use Rattle.faults.specs.declared.OrMemory.{OrMemory}
 use Rattle.faults.specs.declared.OrMemory.TheVariants.{Memory, Fault}

@@ -9,7 +9,6 @@ use Rattle.std.specs.Str.{bytes_eq}
 use Rattle.cpuset_tree.specs.declared.Group.{Group}
 use Rattle.cpuset_tree.specs.TreeState.{GroupEntry}
 use Rattle.cpuset_tree.specs.Groups.{same_group, entry_of, has_group, is_root, is_root_entry, has_children, root_of, requested_cpus, cpus_in}
-use Rattle.cpuset_tree.specs.TreeChanges.{without_group}
 use Rattle.cpuset_tree.specs.GroupLemmas.{same_group-equal, same_group_itself}
 use Rattle.cpuset_tree.specs.TreeLemmas.{root_is_there, no_parent_no_children, root_among-without}
 use Rattle.proctable.specs.declared.Process.{Process}

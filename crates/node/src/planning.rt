@@ -221,10 +221,10 @@ impl<K: Kernel + Drop> Node<K> {
     /// In this order: `Busy`; an allocation failure; `Failed` of the kernel: the hand-over is over, each container
     /// requests what it did before, or what it keeps of that, or its target, and the next call starts from there.
     pub fn rebalance(&mut self) -> Result<Outcome, OrMemory<NodeFault>>
-        // What the host has then, what the certificate tells of that, and what is left if a write failed. It is `begin`,
-        // and what single steps until the hand-over ends would do. To a plan it makes exactly the writing calls that
-        // were to come of the hand-over to the sets then in effect. These are at most two for each live container. If
-        // a write fails, at most one more than two for each is made, and if there is no plan none.
+        // What the host has then, what the certificate tells of that, and what is left if a write failed. It is
+        // `begin`, and what single steps until the hand-over ends would do. To a plan it makes exactly the writing
+        // calls that were to come of the hand-over to the sets then in effect. These are at most two for each live
+        // container. If a write fails, at most one more than two for each is made, and if there is no plan none.
         ensures { RebalancesBy InTurn self.old result self.new }
     {
         self.holds();

@@ -11,4 +11,5 @@ pub mod ConfigsServed
 pub mod CertificatesTold
 pub mod MirroredNodes
 pub mod ScriptTold
+pub mod ScriptToldLemmas
 pub mod Partition

@@ -1,6 +1,6 @@
 -- What the script's lines stand for was asked of the node's kernel.
 use Rattle.runtime.specs.Found.{IsSeen}
-use Rattle.runtime.specs.ScriptTold.{scripts_are_told}
+use Rattle.runtime.specs.ScriptToldLemmas.{scripts_are_told}
 use Rattle.cli.proofs.mirroring.play_mirrored.Goals as goal
 
 pub returns : goal.returns

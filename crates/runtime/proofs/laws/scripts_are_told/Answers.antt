@@ -1,5 +1,5 @@
 use Rattle.runtime.specs.Found.{IsSeen}
-use Rattle.runtime.specs.ScriptTold.{scripts_are_told, boots_are_told}
+use Rattle.runtime.specs.ScriptToldLemmas.{scripts_are_told, boots_are_told}
 use Rattle.runtime.proofs.laws.scripts_are_told.Goals as goal
 
 pub returns : goal.returns

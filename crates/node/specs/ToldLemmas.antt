@@ -21,13 +21,13 @@ use Rattle.apply_plan.specs.declared.scan.Write.{Write}
 use Rattle.apply_plan.specs.DueWrite.{due, asks_for, written}
 use Rattle.apply_plan.specs.DirectWrite.{due_directly}
 use Rattle.node.specs.declared.fault.NodeFault.{NodeFault}
-use Rattle.node.specs.declared.fault.NodeFault.TheVariants.{Busy, BadId, IdInUse, TooManyContainers, NoContainer, NotCreated, NotRunnable, BadSignal, NotLive, NotStopped, NoHandover, NoAnswer, NotFree, Config, Demand, Kernel}
+use Rattle.node.specs.declared.fault.NodeFault.TheVariants.{Busy, NoHandover, Kernel}
 use Rattle.node.specs.declared.order.Order.{Order}
 use Rattle.node.specs.declared.order.Order.TheVariants.{InTurn, Directly}
 use Rattle.node.specs.declared.outcome.Outcome.{Outcome}
 use Rattle.node.specs.declared.outcome.Outcome.TheVariants.{Plan, Short}
 use Rattle.node.specs.declared.phase.Phase.{Phase}
-use Rattle.node.specs.NodeState.{ContainerState, Ongoing, NodeState, container_of}
+use Rattle.node.specs.NodeState.{ContainerState, Ongoing, NodeState}
 use Rattle.node.specs.LeastCores.{least_cores}
 use Rattle.node.specs.Orders.{directed_of, StepsBy}
 use Rattle.node.specs.Launch.{FindsOr, AtOnce, WritesSets, StartsIn, Launches}
