@@ -370,30 +370,30 @@ module _ (m : Layout) (left : List Left) (keep : RunsKeep) where
       answered asks (Err Memory) (inr same) = ap (λ (x : NodeState). x.containers) same.2
       answered asks (Err (Fault (Kernel fault))) call = late a.cpus n a.id bundle config fault new h.node call
       answered asks (Err (Fault Busy)) (inl busy, same) = absurd (false≢true (sym h.settled ∙ busy))
-      answered asks (Err (Fault Busy)) (inr no, same) = absurd no.1
+      answered asks (Err (Fault Busy)) (inr never, same) = absurd never.1
       answered asks (Err (Fault BadId)) (inl bad, same) = absurd (bad.1 (all_among (IsLeft m) left a left_so.each among).id)
-      answered asks (Err (Fault BadId)) (inr no, same) = absurd no.1
+      answered asks (Err (Fault BadId)) (inr never, same) = absurd never.1
       answered asks (Err (Fault IdInUse)) (inl used, same) = absurd (false≢true (sym (ap is_some none) ∙ used.2))
-      answered asks (Err (Fault IdInUse)) (inr no, same) = absurd no.1
+      answered asks (Err (Fault IdInUse)) (inr never, same) = absurd never.1
       answered asks (Err (Fault TooManyContainers)) (inl many, same) =
           let room : length n.containers < CONTAINER_LIMIT = has_its n h a among none in
           let full : CONTAINER_LIMIT ≤ length n.containers = many.3 in
           absurd (omega (arith, room, full))
-      answered asks (Err (Fault TooManyContainers)) (inr no, same) = absurd no.1
+      answered asks (Err (Fault TooManyContainers)) (inr never, same) = absurd never.1
       answered asks (Err (Fault (NotFree cpu))) (taken, same) =
           absurd (false≢true (sym taken.taken.taken ∙ is_free n a among (is_pinned taken.asked.kind)
           (λ pinned. asks.kind (subst (λ (s : Said). asks_own s.cpu ≡ true) (one_reading config taken.said asks.said taken.says.said_so asks.read)
           (asks_its_own n.machine taken.said.cpu taken.asked taken.says.asked_so pinned))) cpu taken.taken.there h none))
-      answered asks (Err (Fault (Config fault))) (inl no, same) = absurd no
-      answered asks (Err (Fault (Config fault))) (inr wrong, same) = absurd (let both : Ok asks.said ≡ Err fault = sym asks.read ∙ wrong.1 in cc)
-      answered asks (Err (Fault (Demand fault))) (inl no, same) = absurd no
+      answered asks (Err (Fault (Config fault))) (inl never, same) = absurd never
+      answered asks (Err (Fault (Config fault))) (inr wrong, same) = absurd (let both : Ok asks.said ≡ Err fault = sym asks.read ∙ wrong.1 in let no : ⊥ = cc both in no)
+      answered asks (Err (Fault (Demand fault))) (inl never, same) = absurd never
       answered asks (Err (Fault (Demand fault))) (inr wrong, same) =
           let one : wrong.1.0 ≡ asks.said = one_reading config wrong.1.0 asks.said wrong.1.1 asks.read in
           let right : demand_fault n.machine wrong.1.0.cpu ≡ None =
           ap (λ (s : Said). demand_fault n.machine s.cpu) one ∙ ap (λ (x : Layout). demand_fault x asks.said.cpu) h.machine ∙ asks.right in
           absurd (none-some fault (sym right ∙ wrong.1.2))
-      answered asks (Err (Fault fault)) (inl no, same) = absurd no
-      answered asks (Err (Fault fault)) (inr no, same) = absurd no.1
+      answered asks (Err (Fault fault)) (inl never, same) = absurd never
+      answered asks (Err (Fault fault)) (inr never, same) = absurd never.1
 
     pub pinned_since : (n new : NodeState) → Going m left n → (a : Left) → IsAmong left a → (bundle config : List ℕ) (cpu : ℕ)
         → Adopts n a.id bundle config a.cpus (Err (Fault (NotFree cpu))) new → IsPinnedSince m config a n new
