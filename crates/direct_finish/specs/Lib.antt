@@ -1,0 +1,12 @@
+pub mod FinishesDirectly
+pub mod Follows
+pub mod Bounded
+pub mod FollowLemmas
+pub mod FinishLemmas
+pub mod BoundLemmas
+pub mod TakeLemmas
+pub mod TurnLemmas
+pub mod FollowersLeave
+pub mod FollowerLemmas
+pub mod SeldomWritten
+pub mod SeldomLemmas
