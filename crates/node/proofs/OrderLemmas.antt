@@ -35,6 +35,7 @@ use Rattle.apply_plan.specs.RunLemmas.{steps_leave, ends_within}
 use Rattle.apply_plan.specs.HandoverLemmas.{at_most_two}
 use Rattle.apply_plan.specs.MayWrite.{OnWay, left_directly}
 use Rattle.apply_plan.specs.Directed.{Directed, allowed_of, Least, Serves}
+use Rattle.apply_plan.specs.OnWay.{AreOnWay}
 use Rattle.apply_plan.specs.DirectWrite.{due_directly, StepsDirectly}
 use Rattle.apply_plan.specs.DirectStepLemmas.{due_if_moves}
 use Rattle.apply_plan.specs.DirectLemmas.{few_left}
@@ -43,12 +44,15 @@ use Rattle.apply_plan.specs.DirectOneStepLemmas.{direct_steps_leave}
 use Rattle.apply_plan.specs.DirectRuns as direct
 use Rattle.apply_plan.specs.DirectRunLemmas.{ends_directly}
 use Rattle.apply_plan.specs.Squeezes.{SqueezesOnlyStuck}
+use Rattle.direct_finish.specs.FinishesDirectly.{MayFollow}
+use Rattle.direct_finish.specs.FollowersLeave.{FollowerLeaves}
+use Rattle.direct_finish.specs.FollowerLemmas.{followers_leave, each_step_follows}
 use Rattle.node.specs.declared.order.Order.{Order}
 use Rattle.node.specs.declared.order.Order.TheVariants.{InTurn, Directly}
 use Rattle.node.specs.NodeState.{Ongoing}
 use Rattle.node.specs.Ongoing.{IsSince, IsOnWay, AreSince}
 use Rattle.node.specs.LeastCores.{least_cores}
-use Rattle.node.specs.Orders.{directed_of, StepsBy, left_by, FallsBy, made_by}
+use Rattle.node.specs.Orders.{directed_of, StepsBy, WritesBy, left_by, FallsBy, made_by}
 use Rattle.node.proofs.ListLemmas.{all_of, all_map2, zip_map}
 use Rattle.node.proofs.LeastLemmas.{least_is}
 
@@ -70,13 +74,28 @@ pub record StepLeft (order : Order) (m : Layout) (o : Ongoing) (old : KernelStat
   pub exact : order ≡ InTurn → Spends o.targets old (rise r) new
   pub spent : order ≡ InTurn → r ≡ Ok Done → writes_to_come o.targets new ≡ 0
   pub squeezes : order ≡ Directly → SqueezesOnlyStuck (directed_of o) (least_cores m) old new
+  pub way : order ≡ Directly → AreOnWay (directed_of o) old new
   pub kernel : StepKeeps old new
 
--- each step leaves this
-abbrev pub OrdersLeave : Type 0
-OrdersLeave =
-    (order : Order) (m : Layout) (o : Ongoing) (old : KernelState) (r : Result Progress KernelFault) (new : KernelState) → IsSound m → AllByRecursion InRange o.allowed
-    → IsOpen o.targets old → StepsBy order m o old r new → StepLeft order m o old r new
+-- what one of the writes leaves that are made all at once
+pub record WriteLeft (order : Order) (m : Layout) (o : Ongoing) (old new : KernelState) : Type 0 where
+  pub safe : IsSafe old o.targets.reserved (holders_of o.targets.entries) → IsSafe new o.targets.reserved (holders_of o.targets.entries)
+  pub rest : KeepsRest o.targets old new
+  pub fewer : left_by order o.targets new + 1 ≤ left_by order o.targets old
+  pub since : o.targets.reserved ≡ old.reserved → AreSince order old o → AreSince order new o
+  pub counted : new.failures ≡ old.failures
+  pub spends : new.writes + left_by order o.targets new ≤ old.writes + left_by order o.targets old
+  pub exact : order ≡ InTurn → Spends o.targets old 0 new
+  pub squeezes : order ≡ Directly → SqueezesOnlyStuck (directed_of o) (least_cores m) old new
+  pub way : order ≡ Directly → AreOnWay (directed_of o) old new
+  pub kernel : StepKeeps old new
+
+-- each step leaves this, and each of the writes
+pub record OrdersLeave : Type 0 where
+  pub step : (order : Order) (m : Layout) (o : Ongoing) (old : KernelState) (r : Result Progress KernelFault) (new : KernelState) → IsSound m → AllByRecursion InRange o.allowed
+      → IsOpen o.targets old → StepsBy order m o old r new → StepLeft order m o old r new
+  pub write : (order : Order) (m : Layout) (o : Ongoing) (old new : KernelState) → IsSound m → AllByRecursion InRange o.allowed
+      → IsOpen o.targets old → WritesBy order m o old new → WriteLeft order m o old new
 
 -- a call of somebody else leaves no more to do
 abbrev pub CallsLeave : Type 0
@@ -135,6 +154,11 @@ module _ (o : Ongoing) (old new : KernelState) (valid : IsHandover o.targets) (r
       (λ e found w s. way_on old new o.targets.reserved (allowed_of (directed_of o) e) e found w s) o.targets.entries o.requested_at_begin way
       (subst (λ s. AllZip (λ e found. IsOnWay old s (allowed_of (directed_of o) e) e found) o.targets.entries o.requested_at_begin) (sym reserve) since))
 
+-- at first each container is on its way
+on_way_at_first : (o : Ongoing) (k : KernelState) → AreOnWay (directed_of o) k k
+on_way_at_first o k =
+    all_of (λ e. OnWay o.targets.reserved (allowed_of (directed_of o) e) k e (held k e)) (λ e. record { keeps = λ q h t. h; within = λ q h. inl h }) o.targets.entries
+
 -- where a step answers that more are to come, one write is due
 one_due : (w : Option Write) → More ≡ progress_of w → 1 ≤ cond (is_some w) 1 0
 one_due (Some w) more = omega arith
@@ -176,6 +200,7 @@ module _ (m : Layout) (o : Ongoing) (old new : KernelState) where
         exact = λ _. spends;
         spent = λ _. left.spent;
         squeezes = λ is. absurd (let x : ⊥ = cc is in x);
+        way = λ is. absurd (let x : ⊥ = cc is in x);
         kernel = left.kernel;
       }
 
@@ -213,7 +238,7 @@ module _ (m : Layout) (o : Ongoing) (old new : KernelState) where
         fewer = left.falls;
         more = direct_more law serves left.open_still r s;
         since = λ reserve. since_directly o old new opened.handover left.rest reserve
-            (left.on_way old (all_of (λ e. OnWay o.targets.reserved (allowed_of d e) old e (held old e)) (λ e. record { keeps = λ q h t. h; within = λ q h. inl h }) o.targets.entries));
+            (left.on_way old (on_way_at_first o old));
         counted = left.counted;
         failed = direct_failed r s;
         made = left.made;
@@ -221,16 +246,68 @@ module _ (m : Layout) (o : Ongoing) (old new : KernelState) where
         exact = λ is. absurd (let x : ⊥ = cc is in x);
         spent = λ is. absurd (let x : ⊥ = cc is in x);
         squeezes = λ _. left.squeezes;
+        way = λ _. left.on_way old (on_way_at_first o old);
         kernel = left.kernel;
       }
 
 -- a machine's places serve a hand-over
-serves_it : (m : Layout) (o : Ongoing) → IsSound m → AllByRecursion InRange o.allowed → Serves (directed_of o) (least_cores m)
+pub serves_it : (m : Layout) (o : Ongoing) → IsSound m → AllByRecursion InRange o.allowed → Serves (directed_of o) (least_cores m)
 serves_it m o sound ranged = record { told = least_is m sound; ranged = ranged }
 
+-- each of the writes of the direct order
+module _ (m : Layout) (o : Ongoing) (old : KernelState) (w : Write) where
+  abbrev next : KernelState
+  next = written old (Some w)
+
+  write_directly : IsOpen o.targets old → FollowerLeaves (directed_of o) (least_cores m) old next → WriteLeft Directly m o old next
+  write_directly opened left = record {
+    safe = left.safe;
+    rest = left.rest;
+    fewer = left.fewer;
+    since = λ reserve. since_directly o old next opened.handover left.rest reserve
+        (left.on_way old (on_way_at_first o old));
+    counted = refl;
+    spends = (let fewer : left_directly o.targets next + 1 ≤ left_directly o.targets old = left.fewer in
+        let one : next.writes ≡ old.writes + 1 = refl in
+        omega (arith, fewer, one));
+    exact = λ is. absurd (let x : ⊥ = cc is in x);
+    squeezes = λ _. left.squeezes;
+    way = λ _. left.on_way old (on_way_at_first o old);
+    kernel = left.kernel;
+  }
+
+-- a step in turn after which more are to come is one of its writes
+write_in_turn : (m : Layout) (o : Ongoing) (old new : KernelState) → StepLeft InTurn m o old (Ok More) new → WriteLeft InTurn m o old new
+write_in_turn m o old new left =
+    let counted : new.failures ≡ old.failures + 0 = left.counted in
+    let spends : new.writes + left_by InTurn o.targets new ≤ old.writes + left_by InTurn o.targets old + 0 = left.spends in
+    record {
+      safe = left.safe;
+      rest = left.rest;
+      fewer = left.fewer refl;
+      since = left.since;
+      counted = omega (arith, counted);
+      spends = omega (arith, spends);
+      exact = left.exact;
+      squeezes = left.squeezes;
+      way = left.way;
+      kernel = left.kernel;
+    }
+
+each_step : (order : Order) (m : Layout) (o : Ongoing) (old : KernelState) (r : Result Progress KernelFault) (new : KernelState) → IsSound m → AllByRecursion InRange o.allowed
+    → IsOpen o.targets old → StepsBy order m o old r new → StepLeft order m o old r new
+each_step InTurn m o old r new sound ranged opened s = in_turn m o old new steps_leave opened r s
+each_step Directly m o old r new sound ranged opened s = directly m o old new direct_steps_leave (serves_it m o sound ranged) opened r s
+
+each_write : (order : Order) (m : Layout) (o : Ongoing) (old new : KernelState) → IsSound m → AllByRecursion InRange o.allowed
+    → IsOpen o.targets old → WritesBy order m o old new → WriteLeft order m o old new
+each_write InTurn m o old new sound ranged opened s = write_in_turn m o old new (in_turn m o old new steps_leave opened (Ok More) s)
+each_write Directly m o old new sound ranged opened (w, follows, is) =
+    subst (λ (k : KernelState). WriteLeft Directly m o old k) (sym is)
+    (write_directly m o old w opened (followers_leave (directed_of o) (least_cores m) old w (serves_it m o sound ranged) opened follows))
+
 pub both_leave : OrdersLeave
-both_leave InTurn m o old r new sound ranged opened s = in_turn m o old new steps_leave opened r s
-both_leave Directly m o old r new sound ranged opened s = directly m o old new direct_steps_leave (serves_it m o sound ranged) opened r s
+both_leave = record { step = each_step; write = each_write }
 
 pub calls_leave : CallsLeave
 calls_leave InTurn m o old new c r sound ranged opened apart step =
@@ -276,7 +353,17 @@ module _ (m : Layout) (o : Ongoing) (old : KernelState) (valid : IsHandover o.ta
         (ap (λ (x : Progress). Ok x) (s.1 ∙ ap (λ k. progress_of (due_directly (directed_of o) (least_cores m) k)) same ∙ ap progress_of direct_none), same)
     direct_rests (Err fault) new s = absurd (false≢true (sym (ap is_some direct_none) ∙ s.2))
 
+    direct_holds : (w : Write) → MayFollow (directed_of o) (least_cores m) old w → ⊥
+    direct_holds w follows =
+        let some = (each_step_follows (directed_of o) (least_cores m) old valid serves placed).some w follows in
+        false≢true (sym (ap is_some direct_none) ∙ some)
+
   pub it_rests : IsSound m → AllByRecursion InRange o.allowed → ArePlaced old o.targets.entries → (order : Order) (r : Result Progress KernelFault) (new : KernelState)
       → StepsBy order m o old r new → Rests r new
   it_rests sound ranged placed InTurn r new s = turn_rests r new s
   it_rests sound ranged placed Directly r new s = direct_rests (serves_it m o sound ranged) placed r new s
+
+  pub none_writes : IsSound m → AllByRecursion InRange o.allowed → ArePlaced old o.targets.entries → (order : Order) (new : KernelState)
+      → WritesBy order m o old new → ⊥
+  none_writes sound ranged placed InTurn new s = let no : ⊥ = cc (turn_rests (Ok More) new s).0 in no
+  none_writes sound ranged placed Directly new (w, follows, is) = direct_holds (serves_it m o sound ranged) placed w follows

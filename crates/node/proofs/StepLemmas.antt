@@ -7,6 +7,7 @@ use Rattle.cpuset_tree.specs.declared.Group.{Group}
 use Rattle.cpuset_tree.specs.Groups.{same_group, is_root_entry, cpus_in, mems_in}
 use Rattle.kernel_model.specs.declared.KernelFault.{KernelFault}
 use Rattle.kernel_model.specs.KernelState.{KernelState}
+use Rattle.kernel_model.specs.Laws.{StepKeeps}
 use Rattle.apply_plan.specs.declared.Progress.{Progress}
 use Rattle.apply_plan.specs.declared.Progress.TheVariants.{More, Done}
 use Rattle.apply_plan.specs.Holders.{IsSafe}
@@ -15,24 +16,26 @@ use Rattle.apply_plan.specs.Targets as plan
 use Rattle.apply_plan.specs.DueWrite.{HaveTargets}
 use Rattle.apply_plan.specs.Leaves.{KeepsRest}
 use Rattle.apply_plan.specs.Runs.{IsOpen}
+use Rattle.apply_plan.specs.Directed.{Serves}
+use Rattle.apply_plan.specs.OnWay.{AreOnWay}
 use Rattle.apply_plan.specs.Squeezes.{SqueezesOnlyStuck}
 use Rattle.machine.specs.Layout.{Layout}
 use Rattle.node.specs.declared.fault.NodeFault.{NodeFault}
 use Rattle.node.specs.declared.fault.NodeFault.TheVariants.{Busy, BadId, IdInUse, TooManyContainers, NoContainer, NotCreated, NotRunnable, BadSignal, NotLive, NotStopped, NoHandover, NoAnswer, NotFree, Config, Demand, Kernel}
 use Rattle.node.specs.declared.order.Order.{Order}
-use Rattle.node.specs.declared.order.Order.TheVariants.{Directly}
+use Rattle.node.specs.declared.order.Order.TheVariants.{InTurn, Directly}
 use Rattle.node.specs.declared.phase.Phase.{Phase}
 use Rattle.node.specs.declared.phase.Phase.TheVariants.{Settled, Unsettled}
 use Rattle.node.specs.NodeState.{Ongoing, NodeState, is_underway}
 use Rattle.node.specs.Owners.{Owner, owners_of}
 use Rattle.node.specs.Ongoing.{AreOf, AreSince, IsOngoing, Stands, IsBroken}
 use Rattle.node.specs.LeastCores.{least_cores}
-use Rattle.node.specs.Orders.{directed_of, StepsBy, left_of, FallsBy, made_by}
+use Rattle.node.specs.Orders.{directed_of, StepsBy, WritesBy, left_of, FallsBy, made_by}
 use Rattle.node.specs.IsNode.{IsHome, IsShallow, IsPlaced, IsFirst, Holds, IsNode}
 use Rattle.node.specs.Leaves.{rise_of}
-use Rattle.node.specs.Rebalance.{Stepped, StepsOn}
+use Rattle.node.specs.Rebalance.{Stepped, StepsOn, Writes}
 use Rattle.node.proofs.ListLemmas.{all_map}
-use Rattle.node.proofs.OrderLemmas.{StepLeft, OrdersLeave}
+use Rattle.node.proofs.OrderLemmas.{StepLeft, WriteLeft, OrdersLeave, serves_it}
 use Rattle.node.proofs.HoldsLemmas.{same_owned}
 use Rattle.node.proofs.OngoingLemmas.{of_entries, entries_safe, owners_safe, same_of, none_open}
 use Rattle.node.proofs.LaunchLemmas.{Stays, child_differs, is_there}
@@ -57,11 +60,10 @@ module _ (parent : Group) (owners : List Owner) where
         (all_map (λ w. IsFirst k.table w.holder) (λ w. w.holder.pid < k.table.next_pid) (λ w f. f.given) owners h.first);
   }
 
-  module _ (m : Layout) (o : Ongoing) (old new : KernelState) (h : Holds old parent owners) (g : IsOngoing old owners o) (r : Result Progress KernelFault)
-      (leaves : StepLeft o.order m o old r new) where
-    rest : KeepsRest o.targets old new
-    rest = leaves.rest
-
+  -- where this is what a step or a write leaves
+  module _ (o : Ongoing) (old new : KernelState) (h : Holds old parent owners) (g : IsOngoing old owners o) (rest : KeepsRest o.targets old new)
+      (keeps_safe : IsSafe old o.targets.reserved (holders_of o.targets.entries) → IsSafe new o.targets.reserved (holders_of o.targets.entries))
+      (keeps_since : o.targets.reserved ≡ old.reserved → AreSince o.order old o → AreSince o.order new o) (kernel : StepKeeps old new) where
     -- the containers' parent is no entry's group
     apart : AllByRecursion (λ e. same_group e.group parent ≡ false) o.targets.entries
     apart =
@@ -104,16 +106,16 @@ module _ (parent : Group) (owners : List Owner) where
     safe =
         owners_safe new new.reserved o.targets.entries owners of
         (subst (λ s. IsSafe new s (holders_of o.targets.entries)) reserve
-        (leaves.safe (subst (λ s. IsSafe old s (holders_of o.targets.entries)) (sym g.reserved) (entries_safe old old.reserved o.targets.entries owners g.of h.safe))))
+        (keeps_safe (subst (λ s. IsSafe old s (holders_of o.targets.entries)) (sym g.reserved) (entries_safe old old.reserved o.targets.entries owners g.of h.safe))))
 
     since : AreSince o.order new o
-    since = leaves.since g.reserved g.since
+    since = keeps_since g.reserved g.since
 
     pub moved : Moved o old new
     moved = record {
       stays = record {
         holds = record {
-          kernel = leaves.kernel.well_formed;
+          kernel = kernel.well_formed;
           home = home;
           shallow = shallow;
           distinct = h.distinct;
@@ -122,7 +124,7 @@ module _ (parent : Group) (owners : List Owner) where
           owned = same_owned old.table new.table owners h.owned rest.table;
           safe = safe;
         };
-        machine = leaves.kernel.machine;
+        machine = kernel.machine;
       };
       ongoing = record { handover = g.handover; reserved = reserve; of = of; ranged = g.ranged; since = since };
       rest = rest;
@@ -132,6 +134,15 @@ module _ (parent : Group) (owners : List Owner) where
 pub its_steps : (old : NodeState) (o : Ongoing) → old.ongoing ≡ Some o → (new : NodeState) (r : Result Progress KernelFault) (phase : Phase) (ongoing : Option Ongoing)
     → Stepped old r phase ongoing new → StepsBy o.order old.machine o old.kernel r new.kernel
 its_steps old o was new r phase ongoing s = subst (λ (x : Ongoing). StepsBy x.order old.machine x old.kernel r new.kernel) (same_Some s.handover o (sym s.was ∙ was)) s.steps
+
+-- what one of the writes is of it
+pub its_writes : (old : NodeState) (o : Ongoing) → old.ongoing ≡ Some o → (new : NodeState) → Writes old new → WritesBy o.order old.machine o old.kernel new.kernel
+its_writes old o was new s = subst (λ (x : Ongoing). WritesBy x.order old.machine x old.kernel new.kernel) (same_Some s.handover o (sym s.was ∙ was)) s.writes
+
+-- in turn it is a step after which more are to come
+pub turn_step : (order : Order) → order ≡ InTurn → (m : Layout) (o : Ongoing) (old new : KernelState) → WritesBy order m o old new → StepsBy order m o old (Ok More) new
+turn_step InTurn is m o old new s = s
+turn_step Directly is m o old new s = absurd (let no : ⊥ = cc is in no)
 
 -- the same of what it answered
 pub answered : (order : Order) (m : Layout) (o : Ongoing) (old new : KernelState) (p q : Progress) → p ≡ q → StepsBy order m o old (Ok p) new
@@ -156,16 +167,38 @@ module _ (law : OrdersLeave) (n : NodeState) (h : IsNode n) (o : Ongoing) (was :
   pub open_now : IsOpen o.targets n.kernel
   open_now = is_open n.parent Owners n.kernel h.holds o stands.1
 
+  -- what its containers request is safe
+  pub safe_now : IsSafe n.kernel o.targets.reserved (holders_of o.targets.entries)
+  safe_now =
+      subst (λ s. IsSafe n.kernel s (holders_of o.targets.entries)) (sym stands.1.reserved)
+      (entries_safe n.kernel n.kernel.reserved o.targets.entries Owners stands.1.of h.holds.safe)
+
+  -- the machine's places serve it
+  pub served_now : Serves (directed_of o) (least_cores n.machine)
+  served_now = serves_it n.machine o h.layout.sound stands.1.ranged
+
+  -- the hand-over stays open
+  node_at : (new : KernelState) → Moved n.parent Owners o n.kernel new → IsNode (record n { kernel = new })
+  node_at new moved_on = kernel_node n h new moved_on.stays (subst (Stands new Owners (is_underway n.phase)) (sym was) (stands.0, moved_on.ongoing))
+
+  -- one of the writes that are made all at once
+  module _ (new : KernelState) (s : WritesBy o.order n.machine o n.kernel new) where
+    pub wrote : WriteLeft o.order n.machine o n.kernel new
+    wrote = law.write o.order n.machine o n.kernel new h.layout.sound stands.1.ranged open_now s
+
+    pub wrote_node : IsNode (record n { kernel = new })
+    wrote_node = node_at new (moved n.parent Owners o n.kernel new h.holds stands.1 wrote.rest wrote.safe wrote.since wrote.kernel)
+
   module _ (new : KernelState) (r : Result Progress KernelFault) (s : StepsBy o.order n.machine o n.kernel r new) where
     pub leaves : StepLeft o.order n.machine o n.kernel r new
-    leaves = law o.order n.machine o n.kernel r new h.layout.sound stands.1.ranged open_now s
+    leaves = law.step o.order n.machine o n.kernel r new h.layout.sound stands.1.ranged open_now s
 
     pub moved_on : Moved n.parent Owners o n.kernel new
-    moved_on = moved n.parent Owners n.machine o n.kernel new h.holds stands.1 r leaves
+    moved_on = moved n.parent Owners o n.kernel new h.holds stands.1 leaves.rest leaves.safe leaves.since leaves.kernel
 
     -- a step after which more are to come, and one that ends the hand-over
     pub more_node : IsNode (record n { kernel = new })
-    more_node = kernel_node n h new moved_on.stays (subst (Stands new Owners (is_underway n.phase)) (sym was) (stands.0, moved_on.ongoing))
+    more_node = node_at new moved_on
 
     pub ended_node : (phase : Phase) → is_underway phase ≡ false → IsNode (record n { kernel = new; phase = phase; ongoing = None })
     ended_node phase settled = record {
@@ -238,6 +271,7 @@ pub record Says (old : NodeState) (o : Ongoing) (r : Result Progress NodeFault) 
   pub broken : OnErr r (IsBroken o old.kernel new.kernel)
   pub made : new.kernel.writes ≡ old.kernel.writes + made_by o.order old.machine o old.kernel
   pub squeezes : o.order ≡ Directly → SqueezesOnlyStuck (directed_of o) (least_cores old.machine) old.kernel new.kernel
+  pub way : o.order ≡ Directly → AreOnWay (directed_of o) old.kernel new.kernel
 
 module _ (law : OrdersLeave) (old : NodeState) (h : IsNode old) where
   -- where none was open, nothing is said
@@ -246,10 +280,10 @@ module _ (law : OrdersLeave) (old : NodeState) (h : IsNode old) where
       by_answer old (Says old o)
       (λ new s.
       let left = leaves law old h o was new.kernel (Ok More) (its_steps old o was new (Ok More) old.phase old.ongoing s) in
-      record { falls = λ _. left.falls refl; done = λ e. absurd (let x : ⊥ = cc e in x); broken = tt; made = left.made; squeezes = left.squeezes })
+      record { falls = λ _. left.falls refl; done = λ e. absurd (let x : ⊥ = cc e in x); broken = tt; made = left.made; squeezes = left.squeezes; way = left.way })
       (λ new s.
       let left = leaves law old h o was new.kernel (Ok Done) (its_steps old o was new (Ok Done) Settled None s) in
-      record { falls = λ e. absurd (let x : ⊥ = cc e in x); done = λ _. left.done refl; broken = tt; made = left.made; squeezes = left.squeezes })
+      record { falls = λ e. absurd (let x : ⊥ = cc e in x); done = λ _. left.done refl; broken = tt; made = left.made; squeezes = left.squeezes; way = left.way })
       (λ fault new s.
       let steps = its_steps old o was new (Err fault) Unsettled None s in
       let left = leaves law old h o was new.kernel (Err fault) steps in
@@ -259,6 +293,7 @@ module _ (law : OrdersLeave) (old : NodeState) (h : IsNode old) where
         broken = broken law old h o was new.kernel (Err fault) steps;
         made = left.made;
         squeezes = left.squeezes;
+        way = left.way;
       })
       (λ new settled same. absurd (none-some o (sym (none_open old.kernel (owners_of old.containers) (is_underway old.phase) settled old.ongoing h.stands) ∙ was)))
 
