@@ -1,8 +1,8 @@
 """Processes that look at their own `Cpus_allowed_list` in a loop, while containers move directly. All of them move home at once, each onto the
-CPU of the one before it, whose CPUs become free one after another, and back again, until there were sixty moves at least: each sees its
-own CPUs and never the reserved one. They are six on a machine of 8 CPUs, and sixty on one of 62 or more. On 8 CPUs two that wait for each
+CPU of the one before it, whose CPUs become free one after another, and back again, until there were sixty moves at least, and once more by
+one call: each sees its own CPUs and never the reserved one. They are six on a machine of 8 CPUs, and sixty on one of 62 or more. On 8 CPUs two that wait for each
 other move by way of a CPU that they may have, and where there is none the first of them, and nobody else, is on the reserved CPU. Between
-two writes each has looked."""
+two steps each has looked."""
 
 import json
 import os
@@ -79,6 +79,11 @@ class Watched:
         assert answer == "done", answer
         return writes
 
+    def move_at_once(self):
+        plan = self.run.plan("rebalance direct")
+        assert plan.total is not None, plan.lines
+        self.look()
+
     def end(self):
         for name, watcher in self.watchers.items():
             self.run.ok(f"kill {name} KILL")
@@ -99,7 +104,10 @@ def homewards(watched):
             watched.update(name, allowed=str(k + turn % 2))
         assert watched.move() == len(names), "one write for each that moves"
     for k, name in enumerate(names, 1):
-        expected = [str(k + turn % 2) for turn in range(ROUNDS + 1)]
+        watched.update(name, allowed=str(k + (ROUNDS + 1) % 2))
+    watched.move_at_once()
+    for k, name in enumerate(names, 1):
+        expected = [str(k + turn % 2) for turn in range(ROUNDS + 2)]
         assert watched.seen(name) == expected, (name, watched.seen(name), expected)
     moves = sum(len(watched.seen(name)) - 1 for name in names)
     assert moves >= MOVES, moves
