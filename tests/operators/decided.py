@@ -9,15 +9,15 @@ import dataclasses
 import json
 import os
 import re
-from typing import Any, Dict, List, Mapping, Optional, Sequence, Tuple
+from typing import Any, Dict, List, Mapping, Optional, Sequence, Tuple, Type
 
 import mutants
 from trial import OPERATORS, case, check, scratch, text_of, written
 from numarun_host import cgroups, configs, homes, log, memory, placing, pool, reports, sightings, slices, telling
-from numarun_host.commands import Answer, Ask, Command, LeaveFigures, Level, RunPool, SaveTaken, Say, Start, Steps, T, Taken, Tell, Write
+from numarun_host.commands import Answer, Ask, Command, LeaveFigures, LeaveState, Level, RunPool, SaveTaken, Say, Start, Steps, T, Taken, Tell, Write
 from numarun_host.configs import Demand, Pin
 from numarun_host.cpus import Cpus, print_list, read_list
-from numarun_host.decide import answer_to_hook, decide, figures_of, reserved_of, squeezed_of
+from numarun_host.decide import answer_to_hook, at_the_end, decide, figures_of, reserved_of, squeezed_of
 from numarun_host.ledger import Container, Kind, Ledger, Pause, Problem, Settings, Sighting, State, Topic, is_undone, report, say_unsaid
 from numarun_host.machine import Machine
 from numarun_host.script import Refused
@@ -57,8 +57,9 @@ def said(commands: Sequence[Command]) -> List[str]:
     return [command.line for command in commands if isinstance(command, Say)]
 
 
-def done(steps: Steps[T], answers: Mapping[str, Sequence[str]] = {}) -> Tuple[List[Command], T]:
-    """What is yielded, and what it ends with; a line for numarun is answered as told here by its first word, or by `ok`."""
+def done(steps: Steps[T], answers: Mapping[str, Sequence[str]] = {}, faults: Mapping[Type[object], str] = {}) -> Tuple[List[Command], T]:
+    """What is yielded, and what it ends with; a line for numarun is answered as told here by its first word, or by `ok`, and the commands of which
+    a fault is named fail."""
     commands: List[Command] = []
     try:
         command = next(steps)
@@ -66,7 +67,7 @@ def done(steps: Steps[T], answers: Mapping[str, Sequence[str]] = {}) -> Tuple[Li
             commands.append(command)
             line = command.line if isinstance(command, Ask) else command.verb.value if isinstance(command, Tell) else ""
             known: Dict[str, Sequence[str]] = {**ANSWERS, **answers}
-            command = steps.send(Answer(tuple(known.get(line, known.get(line.split(" ")[0], ["ok"])))))
+            command = steps.send(Answer(tuple(known.get(line, known.get(line.split(" ")[0], ["ok"]))), why=faults.get(type(command))))
     except StopIteration as end:
         found: T = end.value
         return commands, found
@@ -453,14 +454,7 @@ def groups_let_go() -> None:
     turn.there["x"] = sighting("/t/s.slice")
     check("one that is held", said(done(slices.let_go(turn))[0]), [])
     del turn.there["x"]
-    steps = slices.let_go(turn)
-    tried, command = [], next(steps)
-    try:
-        while True:
-            tried.append(command)
-            command = steps.send(Answer(why="busy" if isinstance(command, Write) else None))
-    except StopIteration:
-        pass
+    tried = tried_again(slices.let_go(turn))
     check("one that can't be written", (said(tried), [one.text for one in tried if isinstance(one, Write)]),
           (["refused /t/s.slice: c is below it, and gets no CPUs: busy"], ["", "0-7"]))
     check("said once", said(tried_again(slices.let_go(turn))), [])
@@ -469,15 +463,8 @@ def groups_let_go() -> None:
 
 
 def tried_again(steps: Steps[T]) -> List[Command]:
-    """The same where no write is taken."""
-    tried, command = [], next(steps, None)
-    try:
-        while command is not None:
-            tried.append(command)
-            command = steps.send(Answer(why="busy" if isinstance(command, Write) else None))
-    except StopIteration:
-        pass
-    return tried
+    """What is yielded where no write is taken."""
+    return done(steps, faults={Write: "busy"})[0]
 
 
 @case
@@ -595,9 +582,121 @@ def reserved_cores() -> None:
         check(f"reserved of {running}, {before}", reserved_of(machine, cpus(running), cpus(before)), cpus(expected))
 
 
-def looked(ledger: Ledger, answers: Mapping[str, Sequence[str]] = {}, **look: object) -> Tuple[List[Command], Ledger]:
+def looked(ledger: Ledger, answers: Mapping[str, Sequence[str]] = {}, faults: Mapping[Type[object], str] = {}, **look: object) -> Tuple[List[Command], Ledger]:
     parts = {"now": 10.0, "online": Online(ledger.running), **look}
-    return done(decide(ledger, Look(**parts)), answers)  # type: ignore[arg-type]
+    return done(decide(ledger, Look(**parts)), answers, faults)  # type: ignore[arg-type]
+
+
+def as_given(held: Container, **parts: Any) -> Found:
+    """A container that is there, and requests what it was given."""
+    group = dataclasses.replace(held.seen.group, cpus=held.cpus or frozenset(), populated=True)
+    return dataclasses.replace(Found(held.seen.told, held.seen.stamp or (), held.seen.config, group), **parts)
+
+
+def lines_asked(commands: Sequence[Command]) -> List[str]:
+    return [command.line for command in commands if isinstance(command, Ask)]
+
+
+@case
+def when_planned() -> None:
+    """A plan is worked out at once where something happens, whatever failed before: a CPU goes, an event asks for it, somebody comes, has gone or
+    asks for other CPUs. Else a plan that is due waits for its pause, and an update that failed for its own."""
+    one = container("p", State.PINNED, 1, cpus=cpus("1"))
+    there, other = as_given(one), Found(Told("/n", "/n"), ("s",), {}, Group("/t/n", 1))
+
+    def asks_for_a_plan(told: Mapping[str, Found] = {"p": there}, **parts: Any) -> Tuple[bool, bool]:
+        ledger = ledger_of(one)
+        ledger.due, ledger.pauses = True, {("plan", ""): Pause(99.0, 1.0)}
+        look = {name: parts.pop(name) for name in ("online", "events") if name in parts}
+        for name, part in parts.items():
+            setattr(ledger, name, part)
+        groups = {found.group.path: found.group for found in told.values()}
+        commands, after = looked(ledger, told=told, groups=groups, **look)
+        return "begin direct" in lines_asked(commands), after.unmade
+
+    plan, none = (True, False), (False, False)
+    check("in the pause", asks_for_a_plan(), none)
+    check("behind it", asks_for_a_plan(pauses={}), plan)
+    check("not due", asks_for_a_plan(pauses={}, due=False), none)
+    check("a CPU goes", asks_for_a_plan(online=Online(cpus("0-6"))), plan)
+    check("an event", asks_for_a_plan(events=("rebalance",)), plan)
+    check("somebody comes", asks_for_a_plan({"p": there, "n": other}), plan)
+    check("one has gone", asks_for_a_plan({}), plan)
+    check("one asks for more", asks_for_a_plan({"p": dataclasses.replace(there, stamp=("t",), config=asks(2))}), plan)
+    check("while it ends", asks_for_a_plan(pauses={}, ending=True), none)
+    for until, expected in ((10.0, plan), (10.1, (False, True))):
+        check(f"an update that failed, until {until}", asks_for_a_plan(pauses={("update", ""): Pause(until, 1.0)}, due=False, unmade=True), expected)
+    commands, _ = looked(ledger_of(), events=("rebalance", "offline 3"))
+    check("numarun is told of CPUs alone", lines_asked(commands)[:1] + [line for line in lines_asked(commands) if "rebalance" in line], ["offline 3"])
+
+
+@case
+def begun_anew() -> None:
+    """Where numarun has no pids left another run begins, which knows nobody: all are told again, as what they were, and a plan follows."""
+    p, s = container("p", State.PINNED, 1, cpus=cpus("2")), container("s", State.SHARED, cpus=cpus("0-1,3-7"))
+    ledger, none = ledger_of(p, s), frozenset[int]()
+    ledger.spent = ledger.unmade = True
+    ledger.taken, ledger.switched = {"/t/p": Taken(1, "", "", False)}, {3: "offline", 4: "online"}
+    ledger.refused["r"], ledger.pauses, ledger.pool, ledger.tried = sighting("/t/r"), {("plan", ""): Pause(99.0, 1.0)}, cpus("0-7"), ["pool 0-7"]
+    told = {"p": as_given(p), "s": as_given(s)}
+    commands, after = looked(ledger, told=told, groups={found.group.path: found.group for found in told.values()})
+    check("another run", [(start.reserved, start.offline, start.memory) for start in commands if isinstance(start, Start)], [(cpus("0"), none, cpus("0"))])
+    check("all are told", [(tell.name, print_list(tell.cpus)) for tell in commands if isinstance(tell, Tell)][:1], [("p", "2")])
+    check("the plan is said", [line for line in said(commands) if line.startswith(("pool", "done"))], ["pool 0-7", "done"])
+    check("what is known", (after.before, after.known, after.spent, after.unmade, after.refused, after.switched),
+          ({"p": ("/t/p", True), "s": ("/t/s", False)}, {"/t/p"}, False, False, {}, {}))
+    for is_fixed, expected in ((True, ["offline 3"]), (False, [])):
+        commands, _ = looked(ledger, online=Online(ledger.running, is_fixed=is_fixed))
+        check(f"CPUs that events took away, {is_fixed}", [line for line in lines_asked(commands) if "line" in line], expected)
+        check("a plan, though nobody is there", "begin direct" in lines_asked(commands), True)
+    first = ledger_of()
+    first.started = False
+    commands, after = looked(first, events=("offline 5",))
+    check("an event at the start", (lines_asked(commands)[0], "begin direct" in lines_asked(commands), after.before), ("offline 5", True, {}))
+    first.started = False
+    check("no event", "begin direct" in lines_asked(looked(first)[0]), False)
+    try:
+        looked(ledger_of(root=None), online=Online(cpus("")))
+    except Refused as why:
+        check("no CPU, and no tree", str(why), "m: none of its CPUs is there")
+
+
+@case
+def left_for_others() -> None:
+    """What is known is left where something of it is another one, and at the end, if there is a tree; the figures, if they are asked for. What can't
+    be left is said once."""
+    def left(commands: Sequence[Command]) -> List[object]:
+        return [command.state["offline"] for command in commands if isinstance(command, LeaveState)]
+
+    off = Online(cpus("0-6"))
+    check("no news", (left(looked(ledger_of())[0]), left(looked(ledger_of(), online=off)[0]), left(looked(ledger_of(root=None), online=off)[0])), ([], ["7"], []))
+    check("no figures", [command for command in looked(ledger_of())[0] if isinstance(command, LeaveFigures)], [])
+    full = {LeaveState: "/run/status.json: full", LeaveFigures: "/figures: full"}
+    commands, ledger = looked(ledger_of(figures="/figures"), faults=full, online=off)
+    check("a full disk", said(commands)[-2:], ["failed /figures: full", "failed /run/status.json: full"])
+    commands, ledger = looked(ledger, faults=full, online=Online(cpus("0-5")), now=20.0)
+    check("said once", [line for line in said(commands) if line.startswith("failed")], [])
+    commands, ledger = looked(ledger, online=off, now=30.0)
+    check("done", ledger.problems, {})
+    for root, expected in (("/t", [True]), (None, [])):
+        check(f"at the end, {root}", [command.ended for command in at_the_end(ledger_of(root=root)) if isinstance(command, LeaveState)], expected)
+
+
+@case
+def kept_at_a_look() -> None:
+    """What was kept of one before is kept as long as it is told of, or has a process. The list of an update is kept. Titles are the look's."""
+    ledger = ledger_of()
+    ledger.before, ledger.taken = {name: (f"/t/{name}", None) for name in ("told", "there", "gone")}, {"/t/there": Taken(1, "", "", False)}
+    _, after = looked(ledger, told={"told": Missing(Told("/b", "/f"), "not JSON")}, groups={"/t/there": Group("/t/there", 1, cpus("2"), populated=True)})
+    check("of one before", sorted(after.before), ["there", "told"])
+    one = container("a", State.PINNED, 1, cpus=cpus("1"))
+    ledger = ledger_of(one)
+    ledger.taken = {"/t/a": Taken(1, "5", "", False)}
+    found = as_given(one, told=Told("/b", "/f", listed="1"))
+    commands, after = looked(ledger, told={"a": found}, groups={"/t/a": found.group})
+    check("an update's list", [command.groups["/t/a"] for command in commands if isinstance(command, SaveTaken)][-1:], [Taken(1, "1", "", False, None, True)])
+    commands, _ = looked(after, titles={"a": "web(a)"})
+    check("titles", [line for line in said(commands) if line.startswith("ended")], ["ended web(a)"])
 
 
 @case
@@ -612,6 +711,25 @@ def silent_folders() -> None:
         lines.append(said(commands))
     check("what is said", lines, [["note /f: no such folder yet"], [], [], ["note /f: none of its 2 entries is a container, as x"], [], [], [],
                                   ["note /f: no such folder yet"]])
+    for folder in (Folder("/f", True, 2, 1), Folder("/f", True)):
+        ledger = ledger_of()
+        for _ in range(3):
+            commands, ledger = looked(ledger, folders=(folder,))
+            check(f"one with {folder.entries} entries, of which {folder.containers} are containers", said(commands), [])
+
+
+@case
+def silent_runtimes() -> None:
+    """The folders of runtimes that are not there are named together, at the first look at folders."""
+    rows: Sequence[Tuple[Sequence[Tuple[bool, ...]], Sequence[Sequence[str]]]] = (
+        ([(), (False, False), (False, False), (True, False)], [[], ["note no such folders yet: /q, /r"], [], []]),
+        ([(True, False), (False, False)], [["note no such folders yet: /r"], []]), ([(True, True)], [[]]))
+    for looks, expected in rows:
+        ledger, lines = ledger_of(), []
+        for there in looks:
+            commands, ledger = looked(ledger, folders=tuple(Folder(path, is_there, by_runtime=True) for path, is_there in zip(("/q", "/r"), there)))
+            lines.append(said(commands))
+        check(f"those that are there: {looks}", lines, expected)
 
 
 @case
@@ -630,8 +748,14 @@ def notes() -> None:
     commands, ledger = looked(ledger, online=Online(cpus("0,2-6"), cpus("9")))
     check("another thing", [line for line in said(commands) if line.startswith(("note", "online"))], [
         "online 6", "note CPUs 9 are left alone: the machine file has none of them"])
+    check("what is told of that", ledger.running, cpus("0,2-6"))
     commands, ledger = looked(ledger, {"offline 5": ["refused E52 NoSuchCpu 5"]}, online=Online(cpus("0,2-4,6"), cpus("9")))
     check("refused", ([line for line in said(commands) if "5" in line], ledger.wrong, 5 in ledger.running), (["refused E52 NoSuchCpu 5: offline 5"], True, True))
+    commands, ledger = looked(ledger_of(), online=Online(ledger.running, cpus("8")))
+    check("without an event", [line for line in said(commands) if line.startswith("note")], ["note CPUs 8 are left alone: the machine file has none of them"])
+    whole = ledger_of()
+    whole.started = False
+    check("nothing is otherwise", [line for line in said(looked(whole)[0]) if line.startswith("note")], [])
 
 
 @case
@@ -657,6 +781,8 @@ def told_wrong() -> None:
     commands, ledger = looked(ledger, wrong=("line 1: x",), fault="/f: no", doubles=(Double("a", "/f/a", "/g/a"),), pool_command="sh 1", pool_fault="status 1")
     check("said", said(commands), ["refused: line 1: x", "failed /f: no; looks again", "refused: its id is told by /g/a too: a /f/a", "failed sh 1: status 1"])
     check("left undone", (ledger.wrong, len(ledger.problems)), (True, 3))
+    commands, ledger = looked(ledger, fault="/f: no", doubles=(Double("a", "/f/a", "/g/a"),))
+    check("as long as it is the same", (said(commands), len(ledger.problems)), ([], 3))
     commands, ledger = looked(ledger, pool_command="sh 1")
     check("all done", (said(commands), ledger.problems), ([], {}))
     commands, _ = looked(ledger, fault="/f: no")
@@ -671,6 +797,11 @@ def figures() -> None:
                        (Topic.SQUEEZED, "s"): Problem(Kind.SQUEEZED, "s", ""), (Topic.DRIFT, "gone"): Problem(Kind.DRIFT, "gone", ""),
                        (Topic.STAYS, "p"): Problem(Kind.STAYS, "p", "")}
     check("squeezed", squeezed_of(ledger), {"p", "q"})
+    ledger.loose = frozenset({(1, "x"), (2, "y")})
+    check("the partition", [figures_of(ledger)[name] for name in ("partition_valid", "loose_processes")], [1, 2])
+    broken = ledger_of(container("p", State.PINNED, 1))
+    broken.problems = {(Topic.PARTITION, ""): Problem(Kind.PARTITION, "", ""), (Topic.LIMIT, "p"): Problem(Kind.FAILED, "p", "")}
+    check("none", (figures_of(broken)["partition_valid"], squeezed_of(broken)), (0, set()))
     found = figures_of(ledger)
     check("figures", [found[f"containers_{name}"] for name in ("pinned", "waiting", "shared", "squeezed")] + [found["undone"]], [2, 1, 2, 2, 5])
     ledger.looked = 7.5
@@ -724,11 +855,12 @@ def hooks() -> None:
     """A hook is answered once it is decided: pinned, shared, no place, refused."""
     waits = Problem(Kind.WAITS, "w", "w: no place")
     ledger = ledger_of(container("p", State.PINNED, 1, cpus=cpus("1")), container("s", State.SHARED, cpus=cpus("0,2-7")), container("w", State.WAITING, cpus=cpus("0")),
-                       container("q", State.ASKING, 1, cpus=cpus("0")), container("k", State.KEPT, 1, cpus=cpus("2")), container("n", State.PINNED, 1))
+                       container("q", State.ASKING, 1, cpus=cpus("0")), container("k", State.KEPT, 1, cpus=cpus("2")), container("n", State.PINNED, 1),
+                       container("v", State.WAITING, cpus=cpus("0")))
     ledger.problems = {(Topic.CONTAINER, "w"): waits, (Topic.CONTAINER, "r"): Problem(Kind.REFUSED, "r", ": r"), (Topic.CONTAINER, "f"): Problem(Kind.FAILED, "f", "f"),
                        (Topic.CONTAINER, "a"): Problem(Kind.ABSENT, "a", "a"), (Topic.CONTAINER, "k"): Problem(Kind.REFUSED, "k", "k")}
     expected = {"p": ("pinned", "pinned p 1"), "s": ("shared", "shared s 0,2-7"), "w": ("no place", "no place waits w: no place"), "q": None, "r": ("refused", "refused: r"),
-                "f": ("failed", "failed f"), "a": None, "k": ("refused", "refused k"), "n": None, "nobody": None}
+                "f": ("failed", "failed f"), "a": None, "k": ("refused", "refused k"), "n": None, "nobody": None, "v": None}
     for name, answer in expected.items():
         check(f"of {name}", answer_to_hook(ledger, name), answer and {"answer": answer[0], "text": answer[1]})
     ledger.unsaid.add((Topic.CONTAINER, "w"))

@@ -232,6 +232,8 @@ def begins_as_it_can() -> None:
     check("short", told({"rebalance": ["short demand 9 allowed 1-7", "member p", "end"]}), (["create a -"], ["create a -"]))
     check("refused in the trial", told({"rebalance": ["plan total 0", "pool 0-7", "end"]}), (["create a -"], ["create a -"]))
     check("another one's", told({}, found("s", config_of(), "2-3")), (["create a -"], ["create a -", "adopt s 2-3"]))
+    check("the pool's are another one's", told({"rebalance": ["plan total 40", "hold a 1-2", "hold c 3-4", "pool 0,5-7", "end"]}, found("s", config_of()), found("c", asks(2), "0,3-7")),
+          (["create a -", "adopt c 0,3-7"], ["adopt a 1-2", "adopt c 0,3-7", "create s -"]))
     check("a write that fails", told({"adopt": ["refused E50 KernelFault"]}), (["create a -"], ["adopt a 1-2", "create a -"]))
     check("its own are not free", told({"rebalance": ["plan total 30", "hold a 1-2", "hold b 5", "hold c 3", "pool 0,4,6-7", "end"], "adopt": ["refused E104 NotFree 5"]},
                                        found("b", asks(1), "5"), found("c", asks(1), "5"))[1], ["adopt a 1-2", "create a -", "adopt b 5", "create b -", "adopt c 5", "adopt c 3", "create c -"])
