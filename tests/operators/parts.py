@@ -6,10 +6,11 @@ from __future__ import annotations
 import dataclasses
 from typing import Any, Callable, Dict, List, Mapping, Optional, Sequence, Tuple
 
-from decided import EIGHT, FOUR, asks, config_of, container, cpus, done, ledger_of, looked, said, sighting
+import model
+from decided import EIGHT, FOUR, asks, config_of, container, cpus, done, ledger_of, looked, machine_of, said, sighting
 from trial import case, check
 from numarun_host import changes, configs, newcomers, plans, room
-from numarun_host.commands import Answer, Ask, Command, Drop, Link, SaveTaken, Steps, T, Taken, Tell, Unlink, Verb, Write
+from numarun_host.commands import Answer, Ask, Command, Drop, KeepCertificate, Link, RunPool, SaveTaken, Steps, T, Taken, Tell, Unlink, Verb, Write
 from numarun_host.configs import Demand
 from numarun_host.cpus import print_list
 from numarun_host.ledger import Kind, Ledger, Pause, Problem, State, Topic
@@ -637,3 +638,147 @@ def handed_over() -> None:
     commands, ledger = looked(ledger, answers, told=held, groups=groups_of(*held.values()), now=11.5)
     check("and then", (said(commands)[-1], ledger.due, ledger.containers["a"].state, [print_list(each.cpus or ()) for each in ledger.containers.values()], ledger.problems, ledger.tried),
           ("done", False, State.PINNED, ["1-2", "0,3-7"], {}, None))
+
+
+def outcome_of_plan(ledger: Ledger, answer: Callable[[str], Sequence[str]]) -> List[str]:
+    """What is said where a plan is worked out, and numarun answers so."""
+    return said(answered(plans.plan(Turn(ledger, Look(10.0))), answer)[0])
+
+
+@case
+def no_plan() -> None:
+    """Without a plan it is said why, once; a shortage is counted, and what is no shortage is tried again behind a pause. Who is short waits."""
+    short = ["short demand 9 allowed 1-7", "member a", "end"]
+    for name, held, lines, expected in (
+        ("nobody can wait", one("a", State.SHARED), short, (["short demand 9 allowed 1-7 member a"], False, 1)),
+        ("no memory", one("a", State.SHARED), ["refused E1 Memory"], (["refused E1 Memory"], True, 0))):
+        ledger = ledger_of(held)
+        said_of = outcome_of_plan(ledger, lambda line: lines)
+        check(name, (said_of, ledger.due, ledger.counts["shortages_total"]), expected)
+        check(f"{name}: said once", outcome_of_plan(ledger, lambda line: lines), [])
+        check(f"{name}: pauses", ledger.pauses["plan", ""], Pause(12.0, 2.0))
+    for ending, expected_state, count in ((False, State.WAITING, 0), (True, State.ASKING, 1)):
+        ledger, begins = ledger_of(one("a", State.ASKING, **asking(9))), iter([short, ["plan total 0", "pool 0-7", "end"]])
+        ledger.ending = ending
+        outcome_of_plan(ledger, lambda line: next(begins) if line == "begin direct" else ["done"] if line == "step" else ["ok"])
+        check(f"one can wait, and it ends: {ending}", (ledger.containers["a"].state, ledger.counts["shortages_total"], ledger.due), (expected_state, count, False))
+
+
+@case
+def no_direct_plan() -> None:
+    """A numarun that knows no direct hand-overs is asked for others; that is said once."""
+    ledger = ledger_of()
+    answers = {"begin direct": ["refused E110 BadLine"]}
+    commands, _ = done(plans.begin(ledger), answers)
+    check("said", [line[:46] for line in said(commands)], ["note this numarun knows no direct hand-overs, "])
+    commands = [*commands, *done(plans.begin(ledger), answers)[0]]
+    check("asked", [each.line for each in commands if isinstance(each, Ask)], ["begin direct", "begin", "begin"])
+    check("and no more", len(said(commands)), 1)
+    other = ledger_of()
+    commands, _ = done(plans.begin(other), {"begin direct": ["refused E1 Memory"]})
+    check("another refusal", ([each.line for each in commands if isinstance(each, Ask)], said(commands), other.direct), (["begin direct"], [], True))
+
+
+@case
+def certificates() -> None:
+    """The certificate of each plan, or shortage, is kept where that is asked for; the file of the last one is known, and why it can't be kept is said."""
+    ledger = ledger_of(certificates="/c")
+    commands, _ = done(plans.plan(Turn(ledger, Look(10.0))), {"certificate": ["cert 1", "end"], "": ["/c/1"]})
+    check("kept", ([each.lines for each in commands if isinstance(each, KeepCertificate)], ledger.certificate), ([("cert 1", "end")], "/c/1"))
+    done(plans.plan(Turn(ledger, Look(10.0))), {"": []})
+    check("the same again", ledger.certificate, "/c/1")
+    commands, _ = done(plans.plan(Turn(ledger, Look(10.0))), {"": []}, {KeepCertificate: "/c: full"})
+    check("a full disk", ([line for line in said(commands) if line.startswith("failed")], ledger.certificate), (["failed /c: full"], "/c/1"))
+    done(plans.plan(Turn(ledger, Look(10.0))), {"": ["/c/2"]})
+    check("and then", (ledger.problems, ledger.certificate), ({}, "/c/2"))
+    commands, _ = done(plans.plan(Turn(ledger_of(), Look(10.0))))
+    check("not asked for", [each for each in commands if isinstance(each, KeepCertificate)], [])
+
+
+@case
+def steps() -> None:
+    """Each write of a plan is a step, until all are done, one fails, or the agent is to end. Then those that get CPUs have them, and those that are never
+    moved ask for just these."""
+    stay = {"numarun.stay": "true"}
+    several = [one("a", State.ASKING, **asking(1)), one("k", State.KEPT, **asking(1)), one("n", State.ASKING, **asking(1)), one("s", State.SHARED),
+               one("t", State.PINNED, **asking(2, annotations=stay)), one("w", State.WAITING, **asking(9, 0, annotations=stay))]
+    for seen in range(len(several)):
+        several[seen] = dataclasses.replace(several[seen], seen=dataclasses.replace(several[seen].seen, config=several[seen].demand.config))
+    outcome = Outcome("plan total 0", 0, {"a": cpus("1"), "k": cpus("2"), "t": cpus("4-5")}, cpus("0,6-7"))
+
+    def over(*lines: str, **parts: Any) -> Tuple[List[Command], bool, Ledger]:
+        ledger, several_lines = ledger_of(*several, pool_least=3), iter(lines)
+        ledger.pauses["plan", ""] = Pause(99.0, 1.0)
+        for name, part in parts.items():
+            setattr(ledger, name, part)
+        commands, made = answered(plans.hand_over(Turn(ledger, Look(10.0)), outcome), lambda line: [next(several_lines)] if line == "step" else ["ok"])
+        return commands, made, ledger
+
+    commands, made, ledger = over("more", "more", "done")
+    check("all", (made, ledger.counts["steps_total"], said(commands), ledger.due, ledger.pauses), (True, 3, ["done"], False, {}))
+    check("what they are", {name: held.state for name, held in ledger.containers.items()},
+          {"a": State.PINNED, "k": State.KEPT, "n": State.ASKING, "s": State.SHARED, "t": State.PINNED, "w": State.WAITING})
+    told = [(each.verb, each.name, configs.at(each.config, "linux", "resources", "cpu", "cpus")) for each in commands if isinstance(each, Tell)]
+    check("who is never moved", (told, [each for each in commands if isinstance(each, RunPool)]), ([(Verb.UPDATE, "t", "4-5")], []))
+    commands, made = answered(plans.hand_over(Turn(ledger, Look(10.0)), outcome), lambda line: ["done"])
+    check("is told so once", told_of(commands), [])
+    _, made, ledger = over("more", "refused E50 KernelFault")
+    check("a write that fails", (made, ledger.counts["steps_total"], ledger.containers["a"].state), (False, 2, State.ASKING))
+    commands, made, ledger = over(ending=True, due=True)
+    check("it ends", (made, commands, ledger.due), (False, [], True))
+
+
+@case
+def planned_again() -> None:
+    """A plan that failed is due, and what it changes is said once as long as it is the same."""
+    ledger = ledger_of(one("a", State.ASKING, **asking(1)))
+    answers = {"begin direct": ["plan total 10", "hold a 1", "pool 0,2-7", "end"], "step": ["refused E50 KernelFault"], "sets": ["cpus 0 effective 0 mems 0 effective 0"]}
+    first, second = (said(done(plans.plan(Turn(ledger, Look(10.0))), answers)[0]) for _ in range(2))
+    check("said", (first, second, ledger.due), (["plan total 10", "hold a 1", "pool 0,2-7", "failed refused E50 KernelFault"], [], True))
+    answers["begin direct"] = ["plan total 10", "hold a 2", "pool 0-1,3-7", "end"]
+    check("another one", said(done(plans.plan(Turn(ledger, Look(10.0))), answers)[0]), ["plan total 10", "hold a 2", "pool 0-1,3-7"])
+    plans.count_plan(ledger, Outcome("plan total 0", 0, {}, cpus("0-7")), 0)
+    check("one without distance", ledger.counts["distance"], 0)
+
+
+class Scene:
+    """The plain model of numarun, groups and a folder (model.py), in which somebody comes or goes before each look."""
+
+    def __init__(self, pool_least: int = 0) -> None:
+        self.world = model.World(machine_of(EIGHT), model.Choices(b""), pool_least)
+        self.agent = model.Agent(self.world)
+
+    def come(self, **counts: int) -> None:
+        for name, count in counts.items():
+            self.world.count += 1
+            self.world.places[self.world.path(name)] = model.Place(self.world.count, shared=not count)
+            self.world.bundles[name] = model.Bundle(model.config_of(count), self.world.count)
+
+    def go(self, *names: str) -> None:
+        for name in names:
+            del self.world.bundles[name], self.world.places[self.world.path(name)]
+
+    def look(self) -> List[str]:
+        """The lines of the next look that are warnings."""
+        self.world.now += 100
+        self.agent.look(troubled=False)
+        return self.agent.said
+
+    def count(self, *names: str) -> List[int]:
+        return [len(self.world.places[self.world.path(name)].cpus) for name in names]
+
+
+@case
+def room_behind_a_plan() -> None:
+    """Where somebody is to wait behind all, those who wait already may have room, at the same look."""
+    for least, asked, why in ((0, 6, "short demand 8 allowed 1-7"), (2, 5, "it would leave 1 CPUs to the pool, and that keeps 2")):
+        scene = Scene(least)
+        scene.come(p=2, q=4)
+        scene.look()
+        scene.come(w=3)
+        scene.look()
+        check("one waits", (scene.count("p", "q"), scene.agent.ledger.containers["w"].state), ([2, 4], State.WAITING))
+        scene.go("q")
+        scene.come(n=asked)
+        lines = [line.replace("1,2,3,4,5,6,7", "1-7") for line in scene.look()]
+        check(f"another one comes that asks for {asked}", (lines, scene.count("p", "w", "n")), ([f"waits n: {why}: it runs on the pool until there is room"], [2, 3, 3]))
