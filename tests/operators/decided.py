@@ -622,7 +622,9 @@ def when_planned() -> None:
     check("an event", asks_for_a_plan(events=("rebalance",)), plan)
     check("somebody comes", asks_for_a_plan({"p": there, "n": other}), plan)
     check("one has gone", asks_for_a_plan({}), plan)
-    check("one asks for more", asks_for_a_plan({"p": dataclasses.replace(there, stamp=("t",), config=asks(2))}), plan)
+    more, same = dataclasses.replace(there, stamp=("t",), config=asks(2)), as_given(container("q", State.PINNED, 1, cpus=cpus("3")))
+    check("one asks for more", asks_for_a_plan({"p": more}), plan)
+    check("one asks for more, and another one not", asks_for_a_plan({"p": more, "q": same}, containers={"p": one, "q": container("q", State.PINNED, 1, cpus=cpus("3"))}), plan)
     check("while it ends", asks_for_a_plan(pauses={}, ending=True), none)
     for until, expected in ((10.0, plan), (10.1, (False, True))):
         check(f"an update that failed, until {until}", asks_for_a_plan(pauses={("update", ""): Pause(until, 1.0)}, due=False, unmade=True), expected)

@@ -4,17 +4,18 @@ out by hand from the pages of operators/."""
 from __future__ import annotations
 
 import dataclasses
-from typing import Any, Callable, Dict, List, Mapping, Optional, Sequence, Tuple
+from typing import Any, Callable, Dict, List, Mapping, Optional, Sequence, Tuple, Type
 
 import model
 from decided import EIGHT, FOUR, asks, config_of, container, cpus, done, ledger_of, looked, machine_of, said, sighting
 from trial import case, check
-from numarun_host import changes, configs, newcomers, plans, room
-from numarun_host.commands import Answer, Ask, Command, Drop, KeepCertificate, Link, RunPool, SaveTaken, Steps, T, Taken, Tell, Unlink, Verb, Write
+from numarun_host import changes, configs, newcomers, plans, room, telling
+from numarun_host.commands import Answer, Ask, Command, Drop, KeepCertificate, Link, OpenTrial, RunPool, SaveTaken, Say, Steps, T, Taken, Tell, Unlink, Verb, Write
 from numarun_host.configs import Demand
 from numarun_host.cpus import print_list
 from numarun_host.ledger import Kind, Ledger, Pause, Problem, State, Topic
 from numarun_host.room import Outcome, Shortage
+from numarun_host.script import Refused
 from numarun_host.seen import Found, Group, Look, Missing, Told
 from numarun_host.telling import Reply, Turn
 
@@ -52,6 +53,25 @@ def told_of(commands: Sequence[Command]) -> List[str]:
 
 def groups_of(*several: Found) -> Mapping[str, Group]:
     return {each.group.path: each.group for each in several}
+
+
+# What is said of refusals.
+
+
+@case
+def failures() -> None:
+    """What may be taken at another time is said as why; an update that fails so is made at another time, and one that is refused for good is not."""
+    for answer, line, unmade in (("refused E50 KernelFault", "failed refused E50 KernelFault", True), ("refused E111 NoBundle", "absent a: /b: can't be read", True),
+                                 ("refused E45 NoPids", "absent a: /b: E45 NoPids: told again in another run", True), ("refused E63 NoSuchCpu 9", "refused E63 NoSuchCpu 9: a /b: it stays as it was", False)):
+        ledger = ledger_of(one("a", State.PINNED, **asking(2)))
+        commands, taken = done(telling.tell_update(Turn(ledger, Look(10.0)), "a", asking(3)["demand"]), {"update": [answer]})
+        check(answer, (said(commands), taken, ledger.unmade, list(ledger.pauses)), ([line], False, unmade, [("update", "")] if unmade else []))
+    ledger.pauses["update", ""] = Pause(11.0, 1.0)
+    commands, taken = done(telling.tell_update(Turn(ledger, Look(10.0)), "a", asking(3)["demand"]))
+    check("taken", (said(commands), taken, ledger.pauses), (["update a /b"], True, {}))
+    new = found("a", config_of())
+    for answer, line in (("refused E111 NoBundle", "absent a: /g/a: can't be read"), ("refused E50 KernelFault", "failed refused E50 KernelFault")):
+        check(f"one that comes: {answer}", said(looked(ledger_of(), {"create": [answer], "adopt": [answer]}, told={"a": new}, groups=groups_of(new))[0]), [line])
 
 
 # Who comes.
@@ -308,6 +328,46 @@ def followed() -> None:
 
 
 @case
+def followed_once() -> None:
+    """What is told of one that is to wait, or is on the pool; what is said of it, and what was left undone of it; and a refusal is said once."""
+    def after(state: State, before: Mapping[str, Any], config: Mapping[str, object], stopped: bool = False, **answers: Any) -> Tuple[List[object], List[str], Ledger, Any]:
+        ledger = ledger_of(one("a", state, cpus=cpus("1-2"), **before))
+        ledger.problems[Topic.CONTAINER, "a"] = Problem(Kind.WAITS, "a", "a")
+        seen = dataclasses.replace(ledger.containers["a"].seen, stamp=("new",), config=config, stopped=stopped)
+        commands, _ = done(changes.follow(Turn(ledger, Look(10.0)), "a", seen), answers)
+        return [each.config for each in commands if isinstance(each, Tell)], said(commands), ledger, seen
+
+    told, lines, ledger, _ = after(State.SHARED, asking(2, 0), asks(3, mems="0"))
+    check("it is to wait", (told, lines, ledger.problems), ([config_of(mems="0")], [], {}))
+    told, lines, ledger, _ = after(State.WAITING, asking(2, 0), config_of(mems="0"))
+    check("on the pool", (told, lines, ledger.problems), ([config_of(mems="0")], ["update a /b"], {}))
+    _, lines, ledger, _ = after(State.SHARED, asking(2, 0), config_of(mems="0"), stopped=True)
+    check("it gave nothing back", (lines, ledger.containers["a"].state), (["update a /b"], State.SHARED))
+    for config in (asks(3), config_of(mems="0")):
+        told, lines, ledger, seen = after(State.SHARED, asking(2, 0), config, update=["refused E63 NoSuchCpu 9"])
+        check("refused", (lines, ledger.unmade, ledger.containers["a"].seen), (["refused E63 NoSuchCpu 9: a /b: it stays as it was"], False, seen))
+    ledger = ledger_of(one("a", State.PINNED, **asking(2)), members=FOUR)
+    turn, before = Turn(ledger, Look(10.0)), ledger.containers["a"].seen
+    ledger.pauses["update", ""] = Pause(99.0, 1.0)
+    for seen in (dataclasses.replace(before, group=dataclasses.replace(before.group, effective=cpus("2"))),
+                 dataclasses.replace(before, told=Told("", None, "s.slice"), limit=(100000, 100000), group=dataclasses.replace(before.group, effective=cpus("3")))):
+        check("the same to ask for", (done(changes.follow(turn, "a", seen)), ledger.containers["a"].seen), (([], False), seen))
+    ledger.pauses.clear()
+    check("and no home anew", done(changes.follow(turn, "a", dataclasses.replace(seen, near=2))), ([], False))
+
+
+@case
+def homes_stay() -> None:
+    """The home is kept for a container's life; where its runtime gives it another list it has a home by that."""
+    for listed, expected in ((None, "1"), ("12-15", "3")):
+        ledger = ledger_of(one("a", State.PINNED, cpus=cpus("4-5"), home=cpus("1"), **asking(2)), members=FOUR)
+        seen = dataclasses.replace(ledger.containers["a"].seen, stamp=("new",), config=asks(4), listed=listed)
+        done(changes.follow(Turn(ledger, Look(10.0)), "a", seen))
+        wanted = ledger.containers["a"].wanted
+        check(f"with the list {listed}", print_list(configs.nodes_named(wanted.config)) if wanted else None, expected)
+
+
+@case
 def follows_at_its_time() -> None:
     ledger = ledger_of(one("a", State.PINNED, cpus=cpus("1-2"), **asking(2)))
     turn = Turn(ledger, Look(10.0))
@@ -332,7 +392,8 @@ def follows_at_its_time() -> None:
 @case
 def mended() -> None:
     """What others wrote is written again: first each gives back what is another one's, and who can't be told of keeps what it has."""
-    def looks(*has: Tuple[str, str], more: Sequence[Found] = (), fault: Mapping[str, Sequence[str]] = {}) -> Tuple[List[str], List[str], Ledger]:
+    def looks(*has: Tuple[str, str], more: Sequence[Found] = (), fault: Mapping[str, Sequence[str]] = {}, faults: Mapping[Type[object], str] = {}
+              ) -> Tuple[List[str], List[str], Ledger]:
         ledger = ledger_of(one("a", State.PINNED, cpus=cpus("1-2"), **asking(2)), one("b", State.PINNED, cpus=cpus("3"), **asking(1)),
                            one("s", State.SHARED, cpus=cpus("0,4-7")), one("t", State.SHARED, cpus=cpus("0,4-7")))
         told: Dict[str, Found] = {}
@@ -342,7 +403,7 @@ def mended() -> None:
             ledger.change(name, seen=seen)
             told[name] = Found(seen.told, seen.stamp or (), seen.config, now)
         told.update({each.told.bundle[3:]: each for each in more})
-        commands, after = looked(ledger, fault, told=told, groups=groups_of(*told.values()))
+        commands, after = looked(ledger, fault, faults, told=told, groups=groups_of(*told.values()))
         steps = [f"write {each.path[3:]} {each.text}" if isinstance(each, Write) else f"adopt {each.name} {print_list(each.cpus)}" for each in commands
                  if isinstance(each, Write) or (isinstance(each, Tell) and each.verb is Verb.ADOPT)]
         return steps, [line for line in said(commands) if line.startswith("drift")], after
@@ -351,12 +412,16 @@ def mended() -> None:
     check("as it was given", looks()[:2], ([], []))
     check("others' CPUs", looks(("a", "5"))[:2], (["adopt a 1-2"], [f"drift a has 5 in place of 1-2: {again}"]))
     check("each other's", looks(("a", "3"), ("b", "1"))[0], ["write a 0", "write b 0", "adopt a 1-2", "adopt b 3"])
+    waits = "another group requests some of these, and can't be told of yet"
+    steps, lines, _ = looks(("a", "3"), ("b", "1"), faults={Write: "busy"})
+    check("where that can't be written", (steps, lines), (["write a 0", "write b 0"], [f"drift a has 3 in place of 1-2: {waits}", f"drift b has 1 in place of 3: {waits}"]))
+    check("one of its own on those of the pool", looks(("a", "4"), ("s", "5"))[0], ["write a 0", "adopt a 1-2", "adopt s 0,4-7"])
     check("one is in the way of the other", looks(("a", "0"), ("b", "2,3"))[0], ["write b 0", "adopt a 1-2", "adopt b 3"])
     check("none is in the way", looks(("a", "5"), ("b", "6"))[0], ["adopt a 1-2", "adopt b 3"])
     check("on the pool they share", looks(("s", "4"), ("t", "5"))[0], ["adopt s 0,4-7", "adopt t 0,4-7"])
     check("one of the pool on another one's own", looks(("a", "0"), ("s", "1"))[0], ["write s 0", "adopt a 1-2", "adopt s 0,4-7"])
     steps, lines, after = looks(("a", "0"), more=[found("new", asks(2), "2,5")], fault={"adopt new": ["refused E50 KernelFault"], "create": ["refused E50 KernelFault"]})
-    waits = "drift a has 0 in place of 1-2: another group requests some of these, and can't be told of yet"
+    waits = f"drift a has 0 in place of 1-2: {waits}"
     check("another group is there", (steps[:1], lines), (["adopt new 2,5"], [waits]))
     check("on its way to be told", looks(("a", "0"), more=[found("new", config_of(), "6")])[0][:1], ["adopt a 1-2"])
     for has, expected in (("2", [waits]), ("5", [f"drift a has 0 in place of 1-2: {again}"])):
@@ -381,6 +446,112 @@ def mended_meanwhile() -> None:
         turn.there["a"] = dataclasses.replace(held.seen, listed=listed)
         commands, _ = done(changes.say_mended(turn, held))
         check(f"unsaid {unsaid}, a list {listed}", (said(commands), ledger.problems, ledger.unsaid), (expected, {}, set()))
+
+
+@case
+def mending() -> None:
+    """One is told of anew, by its link, and then it is what it was; a plan may follow at once. Where it is refused nothing is known of it any more, and no
+    plan is made while it has a process."""
+    held = one("a", State.PINNED, cpus=cpus("1-2"), followed=cpus("0"), **asking(2))
+    rows: Sequence[Tuple[str, Mapping[str, Sequence[str]], Mapping[str, Kind], bool]] = (
+        ("taken", {}, {}, True), ("refused", {"adopt": ["refused E50 KernelFault"]}, {"a": Kind.DRIFT}, False))
+    for name, answers, drift, expected in rows:
+        ledger = ledger_of(held)
+        ledger.due = True
+        group = dataclasses.replace(held.seen.group, cpus=cpus("5"), effective=cpus("5"), populated=True)
+        now = Found(held.seen.told, ("t",), asks(2), group)
+        commands, after = looked(ledger, answers, told={"a": now}, groups=groups_of(now))
+        kinds = [each.line if isinstance(each, Ask) else type(each) for each in commands[commands.index(Unlink("a")):]]
+        check(f"{name}: how", kinds[:5], [Unlink, "kill a KILL", "delete a", Link, Tell])
+        check(f"{name}: what is known", ("a" in after.containers, "a" in after.blocking, {of: problem.kind for (topic, of), problem in after.problems.items() if topic is Topic.DRIFT}),
+              (expected, not expected, drift))
+        check(f"{name}: a plan", any(isinstance(each, Ask) and each.line == "begin direct" for each in commands), expected)
+        check(f"{name}: squeezed", [line for line in said(commands) if line.startswith("squeezed")], [])
+    ledger, turn = ledger_of(held), Turn(ledger_of(held), Look(10.0))
+    seen = dataclasses.replace(held.seen, group=group, nodes=cpus("1"))
+    turn.there, turn.ledger = {"a": seen}, ledger
+    done(changes.mend(turn, held, seen))
+    check("as it is seen by then", (ledger.containers["a"].seen.group, ledger.containers["a"].seen.nodes, turn.there["a"].nodes), (group, cpus("0"), cpus("0")))
+    ledger.pauses["container", "a"] = Pause(11.0, 1.0)
+    check("in its pause", done(changes.mend(turn, held, seen))[0], [])
+
+
+@case
+def drifts() -> None:
+    """Who has drifted, and what is said of it: CPUs or nodes; of one that has none and no process nothing, for it comes or goes. A runtime with lists in its
+    states may have written this one, so of its containers it is said at the next look."""
+    for has, nodes, populated, line in (("1-2", "0", True, ""), ("5", "0", False, "5 in place of 1-2"), ("", "0", True, "- in place of 1-2"), ("", "0", False, ""),
+                                        ("1-2", "", True, "nodes - in place of 0"), ("5", "", True, "5 in place of 1-2")):
+        held = one("a", State.PINNED, cpus=cpus("1-2"), nodes=cpus("0"), **asking(2))
+        group = dataclasses.replace(held.seen.group, cpus=cpus(has), nodes=cpus(nodes), populated=populated)
+        now = Found(held.seen.told, ("s",), {}, group)
+        commands, _ = looked(ledger_of(held, members=FOUR), told={"a": now}, groups=groups_of(now))
+        check(f"{has!r} {nodes!r} {populated}", [each for each in said(commands) if each.startswith("drift")], [f"drift a has {line}: that is written again"] if line else [])
+    key, drift = (Topic.DRIFT, "a"), Problem(Kind.DRIFT, "a", "x")
+    for name, told_list, listed, known, unsaid, lines, left in (
+        ("at once", None, None, False, False, ["drift x"], False), ("at the next look", "1", None, False, False, [], True), ("which is this one", "1", None, True, True, ["drift x"], False),
+        ("said already", "1", None, True, False, [], False), ("its own list", "1", "1", False, False, [], False)):
+        ledger = ledger_of(one("a", State.PINNED))
+        ledger.problems, ledger.unsaid = {key: drift} if known else {}, {key} if unsaid else set()
+        seen = dataclasses.replace(sighting(), told=Told("/b", "/f", listed=told_list), listed=listed)
+        check(name, (said(done(changes.say_drift(ledger, ledger.containers["a"], seen, "x"))[0]), key in ledger.unsaid), (lines, left))
+        check(f"{name}: left undone", key in ledger.problems, listed is None)
+
+
+@case
+def drifts_over_looks() -> None:
+    """In one look and the next: it is mended at once, and said at the next look, once; what it was given already is no drift, and without a tree nothing is."""
+    held = one("a", State.PINNED, cpus=cpus("1-2"), **asking(2))
+    told = dataclasses.replace(held.seen.told, listed="1-2")
+    held = dataclasses.replace(held, seen=dataclasses.replace(held.seen, told=told, listed="1-2"))
+    lines, ledger = [], ledger_of(held)
+    for has in ("5", "1-2", "1-2"):
+        now = Found(told, ("s",), {}, dataclasses.replace(held.seen.group, cpus=cpus(has), populated=True))
+        commands, ledger = looked(ledger, told={"a": now}, groups=groups_of(now))
+        lines.append([line for line in said(commands) if line.startswith("drift")])
+    check("said", (lines, [key for key in ledger.problems if key[0] is Topic.DRIFT]), ([[], ["drift a has 5 in place of 1-2: that is written again"], []], []))
+    new = found("a", asks(2))
+    sets = {"sets": ["cpus 1-2 effective 1-2 mems 0 effective 0"]}
+    commands, ledger = looked(ledger_of(root=None), sets, told={"a": new})
+    commands, ledger = looked(ledger, sets, told={"a": dataclasses.replace(new, age=1)})
+    check("without a tree", (said(commands), told_of(commands)), ([], []))
+
+
+@case
+def ended() -> None:
+    """Who is gone is reached by nothing any more, and nothing of it is kept; of a group of the system's that is, which has its CPUs back later."""
+    held = one("a", State.PINNED, cpus=cpus("1-2"), **asking(2))
+    dead = Group("/t/a", 1, cpus("1-2"), populated=False)
+    for name, group, system, kept in (("gone", None, False, False), ("its group is left", dead, False, False), ("another one is there", Group("/t/a", 2, populated=True), False, False),
+                                      ("one of the system", dead, True, True)):
+        ledger = ledger_of(dataclasses.replace(held, seen=dataclasses.replace(held.seen, told=Told("", None, "a")) if system else held.seen))
+        ledger.taken, ledger.pauses["container", "a"] = {"/t/a": Taken(1, "", "", system)}, Pause(99.0, 1.0)
+        ledger.problems[Topic.SQUEEZED, "a"] = Problem(Kind.SQUEEZED, "a", "a")
+        commands, after = looked(ledger, groups={"/t/a": group} if group else {})
+        kinds = [each.line if isinstance(each, (Ask, Say)) else type(each) for each in commands]
+        check(f"{name}: how", kinds[:5], [Unlink, "kill a KILL", "delete a", "ended a", Drop])
+        check(f"{name}: written", [each for each in commands if isinstance(each, Write) and each.text == "0"], [])
+        check(f"{name}: kept", (list(after.taken), list(after.problems), "container" in {what for what, _ in after.pauses}), (["/t/a"] if kept else [], [], False))
+        saved = [sorted(each.groups) for each in commands if isinstance(each, SaveTaken)]
+        check(f"{name}: saved", saved, [] if kept else [[]])
+    for answers, expected in (({"kill": ["refused E1 Memory"]}, "numarun: 'refused E1 Memory' to 'kill a KILL'"), ({"delete": ["refused E1 Memory"]}, "numarun: 'refused E1 Memory' to 'delete a'")):
+        try:
+            looked(ledger_of(held), answers)
+            check("numarun can't", "goes on", "refused")
+        except Refused as why:
+            check("numarun can't", str(why), expected)
+    steps = changes.untell(ledger_of(held), "a")
+    next(steps), steps.send(Answer())
+    check("what numarun says beside it is not said", isinstance(steps.send(Answer(("ok",), ("a note",))), Ask), True)
+
+
+@case
+def late_and_first() -> None:
+    """No trial before the first plan where a group came in the place of one that ended, for it may have CPUs of the plan."""
+    for inode, expected in ((1, True), (8, False)):
+        ledger, new = ledger_of(one("a", State.PINNED, cpus=cpus("1-2"), **asking(2)), one("z", State.PINNED)), found("n", asks(1))
+        commands, _ = looked(ledger, told={"n": new}, groups={"/t/a": Group("/t/a", inode, populated=False), **groups_of(new)})
+        check(f"a group {inode}", any(isinstance(each, OpenTrial) for each in commands), expected)
 
 
 @case
@@ -433,6 +604,9 @@ def squeezed() -> None:
         check(f"{state} {has} {given} {running}", said(commands), [f"squeezed a: {has} in effect in place of {given}"] if expected else [])
     done(changes.compare_effective(turn, ledger.containers["a"], sighting()))
     check("where nothing is told of it", ledger.problems, {})
+    ledger.problems[Topic.SQUEEZED, "a"] = Problem(Kind.SQUEEZED, "a", "a")
+    done(changes.compare_effective(turn, ledger.containers["a"], sighting(effective=cpus("1"))))
+    check("and no more", ledger.problems, {})
     held = one("a", State.PINNED, cpus=cpus("1-2"), **asking(2))
     now = Found(held.seen.told, ("s",), {}, dataclasses.replace(held.seen.group, cpus=cpus("1-2"), effective=cpus("1")))
     commands, _ = looked(ledger_of(held), told={"a": now}, groups=groups_of(now))
@@ -454,6 +628,26 @@ def late_writes() -> None:
     check("of one before a restart", (after("5", renewed=renewed, containers={}), after("0", renewed=renewed, containers={}), after("", renewed=renewed, containers={})), (["/t/a 0"], [], []))
     check("the system's own", after("5", renewed={"/t/a": Taken(1, "", "", True)}, containers={}), [])
     check("no group of this tree", after("5", renewed={"/u/a": Taken(1, "", "", False)}, containers={}), [])
+    for why in ("", "busy"):
+        ledger = ledger_of(one("a", State.PINNED, cpus=cpus("1-2"), **asking(2)))
+        ledger.due = True
+        commands, ledger = looked(ledger, {}, {Write: why} if why else {}, groups={"/t/a": Group("/t/a", 8, cpus("1-2"), populated=True)})
+        late = "late a: 1-2 of the one before: on the reserved CPUs until it is told"
+        check(f"said, {why}", [line for line in said(commands) if line.startswith(("late", "failed"))], [f"failed {why}" if why else late])
+        check(f"it requested nothing before, {why}", ledger.taken, {"/t/a": Taken(8, "", "", False)})
+        kinds = [type(each) for each in commands if isinstance(each, SaveTaken) or isinstance(each, Say) and each.line.startswith("unseen")]
+        check(f"that is saved at once, {why}", kinds, [SaveTaken, Say])
+    new = found("a", config_of(), "1-2")
+    commands, _ = looked(ledger_of(one("a", State.PINNED, cpus=cpus("1-2"), **asking(2))), told={"a": new}, groups=groups_of(new))
+    check("one that is told by then", [each for each in commands if isinstance(each, Write)], [])
+    turn = Turn(ledger_of(one("h", State.SHARED)), Look(10.0, groups={path: Group(path, 8, cpus("5")) for path in ("/t/s", "/t/u", "/t/h")}))
+    turn.on_the_way = {"/t/s": "c", "/t/x": "c"}
+    turn.ledger.renewed = {"/t/s": Taken(1, "1", "", True), "/t/u": Taken(1, "1", "", True), "/t/h": Taken(1, "1", "", False), "/t/x": Taken(1, "1", "", True)}
+    commands, _ = done(changes.undo_writes_before(turn))
+    check("what was renewed: of the system those on the way", (commands, turn.ledger.taken, turn.ledger.renewed, turn.unsaved), ([], {"/t/s": Taken(8, "", "", True)}, {}, True))
+    turn.unsaved = False
+    done(changes.undo_writes_before(turn))
+    check("nothing was", turn.unsaved, False)
 
 
 # Few CPUs.
