@@ -10,7 +10,7 @@ import model
 from decided import EIGHT, FOUR, asks, config_of, container, cpus, done, ledger_of, looked, machine_of, said, sighting
 from trial import case, check
 from numarun_host import changes, configs, newcomers, plans, room, telling
-from numarun_host.commands import Answer, Ask, Command, Drop, KeepCertificate, Link, OpenTrial, RunPool, SaveTaken, Say, Steps, T, Taken, Tell, Unlink, Verb, Write
+from numarun_host.commands import Answer, Ask, Command, Drop, KeepCertificate, Link, OpenTrial, RunPool, SaveTaken, Say, SetLimit, Steps, T, Taken, Tell, Unlink, Verb, Write
 from numarun_host.configs import Demand
 from numarun_host.cpus import print_list
 from numarun_host.ledger import Kind, Ledger, Pause, Problem, State, Topic
@@ -341,6 +341,8 @@ def followed_once() -> None:
     check("it is to wait", (told, lines, ledger.problems), ([config_of(mems="0")], [], {}))
     told, lines, ledger, _ = after(State.WAITING, asking(2, 0), config_of(mems="0"))
     check("on the pool", (told, lines, ledger.problems), ([config_of(mems="0")], ["update a /b"], {}))
+    told, lines, ledger, _ = after(State.PINNED, asking(2), config_of(cpus="x"), update=["refused E60 BadList x"])
+    check("what numarun refuses is told as it is", (told, lines), ([config_of(cpus="x")], ["refused E60 BadList x: a /b: it stays as it was"]))
     _, lines, ledger, _ = after(State.SHARED, asking(2, 0), config_of(mems="0"), stopped=True)
     check("it gave nothing back", (lines, ledger.containers["a"].state), (["update a /b"], State.SHARED))
     for config in (asks(3), config_of(mems="0")):
@@ -411,6 +413,7 @@ def mended() -> None:
     again = "that is written again"
     check("as it was given", looks()[:2], ([], []))
     check("others' CPUs", looks(("a", "5"))[:2], (["adopt a 1-2"], [f"drift a has 5 in place of 1-2: {again}"]))
+    check("some of its own", looks(("a", "2"))[:2], (["adopt a 1-2"], [f"drift a has 2 in place of 1-2: {again}"]))
     check("each other's", looks(("a", "3"), ("b", "1"))[0], ["write a 0", "write b 0", "adopt a 1-2", "adopt b 3"])
     waits = "another group requests some of these, and can't be told of yet"
     steps, lines, _ = looks(("a", "3"), ("b", "1"), faults={Write: "busy"})
@@ -466,7 +469,8 @@ def mending() -> None:
         check(f"{name}: what is known", ("a" in after.containers, "a" in after.blocking, {of: problem.kind for (topic, of), problem in after.problems.items() if topic is Topic.DRIFT}),
               (expected, not expected, drift))
         check(f"{name}: a plan", any(isinstance(each, Ask) and each.line == "begin direct" for each in commands), expected)
-        check(f"{name}: squeezed", [line for line in said(commands) if line.startswith("squeezed")], [])
+        lines = ["drift a has 5 in place of 1-2: that is written again", *([] if expected else ["failed refused E50 KernelFault", "drift a: that can't be written again"])]
+        check(f"{name}: said", [line for line in said(commands) if line.startswith(("squeezed", "drift", "failed"))], lines)
     ledger, turn = ledger_of(held), Turn(ledger_of(held), Look(10.0))
     seen = dataclasses.replace(held.seen, group=group, nodes=cpus("1"))
     turn.there, turn.ledger = {"a": seen}, ledger
@@ -481,7 +485,7 @@ def drifts() -> None:
     """Who has drifted, and what is said of it: CPUs or nodes; of one that has none and no process nothing, for it comes or goes. A runtime with lists in its
     states may have written this one, so of its containers it is said at the next look."""
     for has, nodes, populated, line in (("1-2", "0", True, ""), ("5", "0", False, "5 in place of 1-2"), ("", "0", True, "- in place of 1-2"), ("", "0", False, ""),
-                                        ("1-2", "", True, "nodes - in place of 0"), ("5", "", True, "5 in place of 1-2")):
+                                        ("1-2", "", True, "nodes - in place of 0"), ("1-2", "9", True, "nodes 9 in place of 0"), ("5", "", True, "5 in place of 1-2")):
         held = one("a", State.PINNED, cpus=cpus("1-2"), nodes=cpus("0"), **asking(2))
         group = dataclasses.replace(held.seen.group, cpus=cpus(has), nodes=cpus(nodes), populated=populated)
         now = Found(held.seen.told, ("s",), {}, group)
@@ -534,6 +538,11 @@ def ended() -> None:
         check(f"{name}: kept", (list(after.taken), list(after.problems), "container" in {what for what, _ in after.pauses}), (["/t/a"] if kept else [], [], False))
         saved = [sorted(each.groups) for each in commands if isinstance(each, SaveTaken)]
         check(f"{name}: saved", saved, [] if kept else [[]])
+    commands, _ = looked(ledger_of(held), told={"a": found("a", asks(2))}, groups={"/t/a": Group("/t/a", 7, populated=True)})
+    check("another one under its id", [line for line in said(commands) if line.startswith(("ended", "create"))], ["ended a", "create a /g/a"])
+    ledger = ledger_of(held, lift=True)
+    ledger.taken = {"/t/a": Taken(1, "", "", False, (200000, 100000))}
+    check("its limit is given back", [each for each in looked(ledger)[0] if isinstance(each, SetLimit)], [SetLimit("/t/a", 1, (200000, 100000), None)])
     for answers, expected in (({"kill": ["refused E1 Memory"]}, "numarun: 'refused E1 Memory' to 'kill a KILL'"), ({"delete": ["refused E1 Memory"]}, "numarun: 'refused E1 Memory' to 'delete a'")):
         try:
             looked(ledger_of(held), answers)
@@ -640,11 +649,21 @@ def late_writes() -> None:
     new = found("a", config_of(), "1-2")
     commands, _ = looked(ledger_of(one("a", State.PINNED, cpus=cpus("1-2"), **asking(2))), told={"a": new}, groups=groups_of(new))
     check("one that is told by then", [each for each in commands if isinstance(each, Write)], [])
-    turn = Turn(ledger_of(one("h", State.SHARED)), Look(10.0, groups={path: Group(path, 8, cpus("5")) for path in ("/t/s", "/t/u", "/t/h")}))
-    turn.on_the_way = {"/t/s": "c", "/t/x": "c"}
-    turn.ledger.renewed = {"/t/s": Taken(1, "1", "", True), "/t/u": Taken(1, "1", "", True), "/t/h": Taken(1, "1", "", False), "/t/x": Taken(1, "1", "", True)}
+    ledger = ledger_of(one("e", State.SHARED, cpus=cpus("")))
+    commands, _ = looked(ledger, groups={"/t/e": Group("/t/e", 8)})
+    check("one that requested none", [each for each in commands if isinstance(each, Write)], [])
+
+
+@case
+def renewed() -> None:
+    """Of groups that came while no agent looked, those of the system that are on the way to a container are known again; those of containers that nobody is
+    told of are brought to the reserved CPUs."""
+    turn = Turn(ledger_of(one("h", State.SHARED)), Look(10.0, groups={path: Group(path, 8, cpus("5")) for path in ("/t/s", "/t/u", "/t/h", "/t/y")}))
+    turn.on_the_way = {"/t/s": "c", "/t/x": "c", "/t/y": "c"}
+    turn.ledger.renewed = {path: Taken(1, "1", "", path not in ("/t/h", "/t/y")) for path in ("/t/s", "/t/u", "/t/h", "/t/x", "/t/y")}
     commands, _ = done(changes.undo_writes_before(turn))
-    check("what was renewed: of the system those on the way", (commands, turn.ledger.taken, turn.ledger.renewed, turn.unsaved), ([], {"/t/s": Taken(8, "", "", True)}, {}, True))
+    check("written", [each for each in commands if isinstance(each, Write)], [Write("/t/y", "cpuset.cpus", "0")])
+    check("known", (turn.ledger.taken, turn.ledger.renewed, turn.unsaved), ({"/t/s": Taken(8, "", "", True), "/t/y": Taken(8, "", "", False)}, {}, True))
     turn.unsaved = False
     done(changes.undo_writes_before(turn))
     check("nothing was", turn.unsaved, False)
