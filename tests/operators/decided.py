@@ -14,12 +14,13 @@ from typing import Any, Dict, List, Mapping, Optional, Sequence, Tuple, Type
 import mutants
 from trial import OPERATORS, case, check, scratch, text_of, written
 from numarun_host import cgroups, configs, homes, log, memory, placing, pool, reports, sightings, slices, telling
-from numarun_host.commands import Answer, Ask, Command, LeaveFigures, LeaveState, Level, RunPool, SaveTaken, Say, Start, Steps, T, Taken, Tell, Write
+from numarun_host.commands import Answer, Ask, Command, LeaveFigures, LeaveState, Level, LookAtPartition, RunPool, SaveTaken, Say, SetLimit, Start, Steps, T, Taken, Tell, Write
 from numarun_host.configs import Demand, Pin
 from numarun_host.cpus import Cpus, print_list, read_list
 from numarun_host.decide import answer_to_hook, at_the_end, decide, figures_of, reserved_of, squeezed_of
 from numarun_host.ledger import Container, Kind, Ledger, Pause, Problem, Settings, Sighting, State, Topic, is_undone, report, say_unsaid
 from numarun_host.machine import Machine
+from numarun_host.partition import Layout, Loose, Partition
 from numarun_host.script import Refused
 from numarun_host.seen import Double, Folder, Found, Group, Look, Missing, NoGroup, Online, Told
 from numarun_host.telling import Reply, Turn
@@ -532,6 +533,8 @@ def problems() -> None:
     for kind, expected in ((Kind.WAITS, False), (Kind.KEEPS, False), (Kind.FEWER, False), (Kind.SHORT, True), (Kind.STAYS, True)):
         ledger.problems = {(Topic.CONTAINER, "a"): Problem(kind, "a", "")}
         check(f"told to end with {kind}", (is_undone(ledger, True), is_undone(ledger, False)), (expected, True))
+    ledger.problems = {(Topic.CONTAINER, "a"): Problem(Kind.OUTSIDE, "a", "")}
+    check("what is outside never counts", is_undone(ledger, False), False)
     ledger.problems = {}
     check("none", is_undone(ledger, False), False)
     for part in ("due", "wrong"):
@@ -657,10 +660,42 @@ def begun_anew() -> None:
     check("an event at the start", (lines_asked(commands)[0], "begin direct" in lines_asked(commands), after.before), ("offline 5", True, {}))
     first.started = False
     check("no event", "begin direct" in lines_asked(looked(first)[0]), False)
+    bare = ledger_of(root=None)
+    bare.started = False
     try:
-        looked(ledger_of(root=None), online=Online(cpus("")))
+        looked(bare, online=Online(cpus("")))
+        check("no CPU, and no tree", "goes on", "refused")
     except Refused as why:
         check("no CPU, and no tree", str(why), "m: none of its CPUs is there")
+
+
+@case
+def settled() -> None:
+    """Beside a plan: the system's groups that are held no more are let go, limits are lifted, and loose processes are named."""
+    one, held = container("p", State.PINNED, 1, cpus=cpus("1")), Group("/t/s.slice", 1, cpus("0,3"))
+    limited = as_given(one, group=Group("/t/p", 1, cpus("1"), limit=(QUOTA, QUOTA), populated=True))
+    ledger = ledger_of(one, lift=True)
+    ledger.taken = {"/t/s.slice": Taken(1, "", "", True), "/t/p": Taken(1, "", "", False)}
+    look = {"told": {"p": limited}, "groups": {"/t/s.slice": held, "/t/p": limited.group}, "partition": Partition(None, loose=(Loose(7, "x", cpus("3")),))}
+    for ending, expected in ((False, ([("cpuset.cpus", ""), ("cpuset.mems", "")], [SetLimit("/t/p", 1, None, (QUOTA, QUOTA))], ["loose 7 x: it may run on 3"])), (True, ([], [], []))):
+        ledger.ending = ending
+        commands, _ = looked(ledger, **look)  # type: ignore[arg-type]
+        check(f"what is done, while it ends: {ending}", ([(each.file, each.text) for each in commands if isinstance(each, Write)], [each for each in commands if isinstance(each, SetLimit)],
+                                                         [line for line in said(commands) if line.startswith("loose")]), expected)
+
+
+@case
+def partition_and_plan() -> None:
+    """A partition gets more CPUs before a plan, and gives some up behind it, or where none is due."""
+    for has, system, due, unmade, expected in (("1-5", "0", True, False, ["look 1-7", "plan"]), ("1-7", "0,6-7", True, False, ["plan", "look 1-5"]),
+                                               ("1-7", "0,6-7", False, False, ["look 1-5"]), ("1-7", "0,6-7", False, True, ["plan", "look 1-5"])):
+        ledger = ledger_of(partition=Layout(("/c/pinned",)), system=cpus(system))
+        ledger.due, ledger.unmade = due, unmade
+        seen = Partition("root", (cpus(has),), cpus(has), cpus("0-7") - cpus(has), way=((True, True), (True, True)))
+        commands, _ = looked(ledger, partition=seen)
+        steps = [f"look {print_list(each.cpus)}" if isinstance(each, LookAtPartition) else "plan" for each in commands
+                 if isinstance(each, LookAtPartition) or isinstance(each, Ask) and each.line == "begin direct"]
+        check(f"{has}, without {system}, {due} {unmade}", list(dict.fromkeys(steps)), expected)
 
 
 @case

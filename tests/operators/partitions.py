@@ -9,7 +9,7 @@ import dataclasses
 import os
 import random
 from types import SimpleNamespace
-from typing import Callable, Dict, Iterator, List, Mapping, Optional, Tuple
+from typing import Callable, Dict, Iterator, List, Mapping, Optional, Sequence, Tuple
 from unittest import mock
 
 from partition_kernel import NOT_EXCLUSIVE, NO_SUCH, TOP, UNABLE, Eyes, Kernel, Killed, World, cpus
@@ -342,11 +342,13 @@ def as_seen() -> None:
         check(f"online with {text}, {above}", seen.online, None if online is None else cpus(online))
     check("nothing is seen", (Partition(None).cpus, Partition(None, (None,)).cpus, Partition(None, (cpus("1"),)).cpus), (NO_CPUS, NO_CPUS, cpus("1")))
     beside = (Beside("/g", cpus("2")),)
-    for text, has, others, expected in ((ROOT, 1, (), True), (ROOT, 1, beside, False), (ROOT, 3, beside, True), (MEMBER, 3, (), False), (UNABLE, 1, (), False), (None, 1, (), False)):
-        check(f"valid: {text} {has} {len(others)}", Partition(text, (cpus("1-2"),) * has, beside=others).is_valid, expected)
+    for text, has, others, valid in ((ROOT, 1, (), True), (ROOT, 1, beside, False), (ROOT, 3, beside, True), (MEMBER, 3, (), False), (UNABLE, 1, (), False), (None, 1, (), False)):
+        check(f"valid: {text} {has} {len(others)}", Partition(text, (cpus("1-2"),) * has, beside=others).is_valid, valid)
     for text, reason, line in ((None, "", "no such file"), ("", "", "nothing"), (UNABLE, "x requests 1", f"{UNABLE}; x requests 1"), (MEMBER, "", MEMBER)):
         check(f"fault: {text} {reason}", Partition(text).fault(reason), line)
-    for step, said_of in ((Write("/c", FILE, ROOT), "/c/cpuset.cpus.partition: 'root' was written, and it is not so"), (MakeGroup("/c"), "/c: it was made, and is not there"), (None, "")):
+    steps: Sequence[Tuple[Optional[Step], str]] = (
+        (Write("/c", FILE, ROOT), "/c/cpuset.cpus.partition: 'root' was written, and it is not so"), (MakeGroup("/c"), "/c: it was made, and is not there"), (None, ""))
+    for step, said_of in steps:
         check(f"in vain: {step}", partition.in_vain(step), said_of)
 
 

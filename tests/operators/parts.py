@@ -127,6 +127,7 @@ def told_in_order() -> None:
     groups = {**groups_of(*told.values()), "/t/s.slice": Group("/t/s.slice", 7, texts=("", "0"))}
     commands, after = looked(ledger, told=told, groups=groups, slices=("s.slice",))
     check("the order", [line.split(" ")[1] for line in told_of(commands)], ["d", "c", "b", "a", "s.slice"])
+    check("by its group", [line for line in said(commands) if "s.slice" in line], ["adopt s.slice /t/s.slice 0-7"])
     kinds = [type(command) for command in commands if isinstance(command, (SaveTaken, Link))]
     check("kept first", kinds[:2], [SaveTaken, Link])
     check("what is kept", {path: (taken.cpus, taken.nodes, taken.system) for path, taken in after.taken.items() if path in ("/t/a", "/t/s.slice")},
@@ -658,12 +659,16 @@ def late_writes() -> None:
 def renewed() -> None:
     """Of groups that came while no agent looked, those of the system that are on the way to a container are known again; those of containers that nobody is
     told of are brought to the reserved CPUs."""
-    turn = Turn(ledger_of(one("h", State.SHARED)), Look(10.0, groups={path: Group(path, 8, cpus("5")) for path in ("/t/s", "/t/u", "/t/h", "/t/y")}))
+    turn = Turn(ledger_of(one("h", State.SHARED)), Look(10.0, groups={path: Group(path, 8, cpus("5")) for path in ("/t/s", "/t/u", "/t/h", "/t/y", "/u/z")}))
     turn.on_the_way = {"/t/s": "c", "/t/x": "c", "/t/y": "c"}
-    turn.ledger.renewed = {path: Taken(1, "1", "", path not in ("/t/h", "/t/y")) for path in ("/t/s", "/t/u", "/t/h", "/t/x", "/t/y")}
+    turn.ledger.renewed = {path: Taken(1, "1", "", path not in ("/t/h", "/t/y", "/u/z")) for path in ("/t/s", "/t/u", "/t/h", "/t/x", "/t/y", "/u/z")}
     commands, _ = done(changes.undo_writes_before(turn))
     check("written", [each for each in commands if isinstance(each, Write)], [Write("/t/y", "cpuset.cpus", "0")])
     check("known", (turn.ledger.taken, turn.ledger.renewed, turn.unsaved), ({"/t/s": Taken(8, "", "", True), "/t/y": Taken(8, "", "", False)}, {}, True))
+    for count in (1, 0):
+        turn.ledger.renewed, turn.unsaved = {"/t/h": Taken(1, "1", "", False)} if count else {}, False
+        done(changes.undo_writes_before(turn))
+        check(f"what was kept of {count} is kept no more", turn.unsaved, bool(count))
     turn.unsaved = False
     done(changes.undo_writes_before(turn))
     check("nothing was", turn.unsaved, False)
@@ -952,6 +957,8 @@ def planned_again() -> None:
     check("another one", said(done(plans.plan(Turn(ledger, Look(10.0))), answers)[0]), ["plan total 10", "hold a 2", "pool 0-1,3-7"])
     plans.count_plan(ledger, Outcome("plan total 0", 0, {}, cpus("0-7")), 0)
     check("one without distance", ledger.counts["distance"], 0)
+    ledger = ledger_of(one("a", State.PINNED, **asking(3, 2)))
+    check("who has fewer is said first", said(done(plans.plan(Turn(ledger, Look(10.0))))[0])[0], "fewer a: 2 of 3 CPUs, as there are no more")
 
 
 class Scene:
@@ -995,3 +1002,24 @@ def room_behind_a_plan() -> None:
         scene.come(n=asked)
         lines = [line.replace("1,2,3,4,5,6,7", "1-7") for line in scene.look()]
         check(f"another one comes that asks for {asked}", (lines, scene.count("p", "w", "n")), ([f"waits n: {why}: it runs on the pool until there is room"], [2, 3, 3]))
+    scene = Scene()
+    scene.come(t=2, q=4)
+    scene.world.bundles["t"] = model.Bundle(model.config_of(2, **{"numarun.stay": "true"}), 9)
+    scene.look()
+    scene.come(w=3)
+    scene.look()
+    scene.go("q")
+    scene.world.online -= {min(scene.world.places[scene.world.path("t")].cpus)}
+    check("one that is never moved has to move", (scene.look(), scene.count("t", "w")), ([], [2, 3]))
+
+
+@case
+def no_room_behind_a_plan() -> None:
+    """Whether others have room is tried once where nobody is to wait behind the plan, and where the plan fails; where they have none no plan follows."""
+    begins = {"begin direct": ["plan total 0", "pool 0-7", "end"], "rebalance": ["plan total 0", "pool 0-7", "end"], "update": ["refused E66 QuotaTooLarge"]}
+    failing = {**begins, "rebalance": ["short demand 9 allowed 1-7", "member p", "end"], "step": ["refused E50 KernelFault"]}
+    for name, answers, expected in (("all is well", begins, (1, 1)), ("a write fails", failing, (1, 1)), ("short in the trial", {**failing, "step": ["done"]}, (2, 1))):
+        turn = Turn(ledger_of(one("p", State.PINNED, **asking(2)), one("w", State.WAITING, **asking(9, 0))), Look(10.0))
+        turn.ledger.due = True
+        commands, _ = done(plans.arrange(turn), answers)
+        check(name, (sum(isinstance(each, OpenTrial) for each in commands), sum(isinstance(each, Ask) and each.line == "begin direct" for each in commands)), expected)
