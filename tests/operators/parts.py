@@ -157,8 +157,14 @@ def refused_at_once() -> None:
     told["two"] = dataclasses.replace(told["two"], stamp=("other",))
     commands, ledger = looked(ledger, told=told, groups=groups_of(*told.values()))
     check("another config", (told_of(commands), sorted(ledger.refused)), (["adopt two 0-7"], sorted(["a b", "..", "x" * 65])))
+    told = {"two": told["two"], "six": found("six", config_of(), path="/t/one")}
+    commands, _ = looked(ledger, told=told, groups=groups_of(*told.values()))
+    check("the group of one that is told already", [line for line in said(commands) if line.startswith("refused")], ["refused: its group is that of two: six /g/six"])
     commands, ledger = looked(ledger, told={}, groups={})
     check("all are gone", (ledger.refused, ledger.problems), ({}, {}))
+    ledger.ending = True
+    commands, ledger = looked(ledger, told=told, groups=groups_of(*told.values()))
+    check("it ends before they are told of", (told_of(commands), ledger.due), ([], True))
 
 
 @case
@@ -175,11 +181,14 @@ def without_a_tree() -> None:
     """Where nothing is written, one whose config is there in part is as it was, and one without a config has ended."""
     new = found("a", asks(2))
     commands, ledger = looked(ledger_of(root=None), told={"a": new})
-    check("told", told_of(commands), ["create a -"])
+    check("told", (told_of(commands), ledger.taken), (["create a -"], {}))
     commands, ledger = looked(ledger, told={"a": Missing(new.told, "not JSON", in_parts=True)})
     check("in part", (said(commands), list(ledger.containers)), ([], ["a"]))
     commands, ledger = looked(ledger, told={"a": Missing(new.told, "no file")})
     check("gone", ("ended a" in said(commands), list(ledger.containers)), (True, []))
+    told = {name: dataclasses.replace(found(name, asks(1)), group=Group("", 0)) for name in "ab"}
+    commands, ledger = looked(ledger_of(root=None), told={"a": told["a"]})
+    check("none has a group", told_of(looked(ledger, told=told)[0]), ["create b -"])
 
 
 @case
@@ -256,7 +265,10 @@ def begins_as_it_can() -> None:
     check("another one's", told({}, found("s", config_of(), "2-3")), (["create a -"], ["create a -", "adopt s 2-3"]))
     check("the pool's are another one's", told({"rebalance": ["plan total 40", "hold a 1-2", "hold c 3-4", "pool 0,5-7", "end"]}, found("s", config_of()), found("c", asks(2), "0,3-7")),
           (["create a -", "adopt c 0,3-7"], ["adopt a 1-2", "adopt c 0,3-7", "create s -"]))
+    check("the pool is shared", told({"rebalance": ["plan total 20", "hold a 1-2", "pool 0,3-7", "end"]}, found("r", config_of(), "0,3-7"), found("s", config_of()))[1],
+          ["adopt a 1-2", "adopt r 0,3-7", "adopt s 0,3-7"])
     check("a write that fails", told({"adopt": ["refused E50 KernelFault"]}), (["create a -"], ["adopt a 1-2", "create a -"]))
+    check("its own are not free in the trial", told({}, found("b", asks(1), "5"), found("c", asks(1), "5"))[0], ["create a -", "create b -", "create c -"])
     check("its own are not free", told({"rebalance": ["plan total 30", "hold a 1-2", "hold b 5", "hold c 3", "pool 0,4,6-7", "end"], "adopt": ["refused E104 NotFree 5"]},
                                        found("b", asks(1), "5"), found("c", asks(1), "5"))[1], ["adopt a 1-2", "create a -", "adopt b 5", "create b -", "adopt c 5", "adopt c 3", "create c -"])
     stray = ledger_of()
@@ -291,6 +303,38 @@ def begins_short() -> None:
     ways = {name: one.way for name, one in planned.items() if one.way}
     check("how they begin", {name: (way.given.count, way.waits, print_list(way.cpus)) for name, way in ways.items()},
           {"a": (2, False, "1-2"), "b": (None, True, "0,3-4,7"), "c": (2, False, "5-6")})
+    check("why it waits", ways["b"].why, "short demand 9 allowed 1-7")
+
+
+@case
+def begins_without_a_trial() -> None:
+    """There is a trial where somebody comes who requests no CPUs, before the first plan of a run, if a plan may be made; the system's groups are none of
+    those. They have what is free."""
+    new, own, names = found("n", asks(1)), found("o", asks(1), "5"), ("s.slice",)
+    slice_group = {"/t/s.slice": Group("/t/s.slice", 7)}
+
+    def trials(*several: Found, groups: Mapping[str, Group] = {}, **parts: Any) -> int:
+        ledger, come = ledger_of(), {"x": Missing(Told("/g/x", "/g/x"), "not JSON"), **{each.told.bundle[3:]: each for each in several}}
+        for name, part in parts.items():
+            setattr(ledger, name, part)
+        commands, _ = looked(ledger, told=come, groups={**groups_of(*several), **groups}, slices=names if groups else ())
+        return sum(isinstance(each, OpenTrial) for each in commands)
+
+    check("one that requests none", trials(new), 1)
+    check("none does", (trials(own), trials(own, groups=slice_group)), (0, 0))
+    check("behind the first plan", trials(new, pool=cpus("0-7")), 0)
+    check("while it ends", trials(new, ending=True), 0)
+    check("one was renewed", trials(new, renewed={"/t/x": Taken(1, "", "", False)}), 0)
+    blocking = dataclasses.replace(sighting("/t/x"), group=Group("/t/x", 7, cpus("4")))
+    check("one can't be told of", [trials(new, groups={"/t/x": Group("/t/x", 7, populated=runs)}, blocking={"x": blocking}) for runs in (True, False)], [0, 1])
+    check("one that may be told of by now", trials(new, own, blocking={"o": dataclasses.replace(blocking, group=own.group)}), 1)
+    commands, _ = looked(ledger_of(), {"rebalance": ["plan total 0", "hold n 1", "pool 0,2-7", "end"], "sets n": ["cpus 1 effective 1 mems 0 effective 0"]}, told={"n": new},
+                         groups={**groups_of(new), **slice_group}, slices=names)
+    check("one of the system", [line for line in said(commands) if "s.slice" in line], ["adopt s.slice /t/s.slice 0,2-7"])
+    drifted = one("a", State.PINNED, cpus=cpus("1-2"), **asking(2))
+    turn = Turn(ledger_of(drifted), Look(10.0, groups=groups_of(new)))
+    turn.there, turn.strays = {"n": sighting("/t/n", asks(1))}, {"a": cpus("5")}
+    check("one has what was written by others", done(newcomers.plan_ways(turn, turn.there)), ([], {}))
 
 
 @case
