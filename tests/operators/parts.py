@@ -139,6 +139,22 @@ def told_in_order() -> None:
 
 
 @case
+def kept_first() -> None:
+    """What a group requested is kept once, before it is written; what is known of this very group stays."""
+    texts = Taken(7, "1-2", "0", False)
+    for name, before, inode, system, expected in (("new", None, 7, False, texts), ("known", Taken(7, "5", "1", False), 7, False, Taken(7, "5", "1", False)),
+                                                  ("another group", Taken(7, "5", "1", False), 8, False, Taken(8, "1-2", "0", False)), ("the system's", texts, 7, True, Taken(7, "1-2", "0", True))):
+        ledger = ledger_of()
+        ledger.taken = {"/t/a": before} if before else {}
+        seen = dataclasses.replace(sighting(), told=Told("/b", None if system else "/f"), group=Group("/t/a", inode, texts=("1-2", "0")))
+        commands, _ = done(newcomers.keep_what_they_had(Turn(ledger, Look(10.0)), [seen]))
+        check(name, (ledger.taken, commands), ({"/t/a": expected}, [] if before == expected else [SaveTaken({"/t/a": expected})]))
+    turn = Turn(ledger_of(), Look(10.0))
+    turn.owners = {"/t/a": "other"}
+    check("the group of another one", done(newcomers.take_up(turn, "a", sighting(), None))[1], False)
+
+
+@case
 def refused_at_once() -> None:
     """An id that is none, and the group of another one: each is said once, and told again once it is another one."""
     told = {"a b": found("a b", config_of()), "..": found("..", config_of()), "x" * 65: found("x" * 65, config_of()), "one": found("one", config_of()),
@@ -314,7 +330,8 @@ def begins_without_a_trial() -> None:
     slice_group = {"/t/s.slice": Group("/t/s.slice", 7)}
 
     def trials(*several: Found, groups: Mapping[str, Group] = {}, **parts: Any) -> int:
-        ledger, come = ledger_of(), {"x": Missing(Told("/g/x", "/g/x"), "not JSON"), **{each.told.bundle[3:]: each for each in several}}
+        ledger, come = ledger_of(), dict[str, Any]({"x": Missing(Told("/g/x", "/g/x"), "not JSON")})
+        come.update((each.told.bundle[3:], each) for each in several)
         for name, part in parts.items():
             setattr(ledger, name, part)
         commands, _ = looked(ledger, told=come, groups={**groups_of(*several), **groups}, slices=names if groups else ())
@@ -1034,6 +1051,25 @@ class Scene:
 
     def count(self, *names: str) -> List[int]:
         return [len(self.world.places[self.world.path(name)].cpus) for name in names]
+
+
+@case
+def with_odd_configs() -> None:
+    """Who comes with a config that numarun refuses runs on the pool; who had CPUs of its own of an agent before stays as it was."""
+    odd = {"ociVersion": "1.0.2", "annotations": {}, "linux": {"resources": {"cpu": {"quota": 200000, "period": 100000}}}}
+    for config, why, state in ((model.config_of(0, "90"), "E63 NoSuchCpu 90", State.SHARED), (odd, "E58 Missing root", State.POOLED)):
+        scene = Scene()
+        scene.come(a=0)
+        scene.world.bundles["a"] = model.Bundle(config, 9)
+        check(why, (scene.look(), scene.count("a"), scene.agent.ledger.containers["a"].state), ([f"refused {why}: a /g/a: it runs on the pool"], [8], state))
+        check(f"{why}: once", scene.look(), [])
+        scene = Scene()
+        scene.come(a=2)
+        scene.look()
+        scene.world.bundles["a"] = model.Bundle(config, 9)
+        check(f"{why}: of one that runs", (scene.look(), scene.count("a")), ([f"refused {why}: a /g/a: it stays as it was"], [2]))
+        scene.agent = model.Agent(scene.world)
+        check(f"{why}: by another agent", (scene.look(), scene.count("a"), scene.agent.ledger.containers["a"].state), ([f"refused {why}: a /g/a: it stays as it was"], [2], State.KEPT))
 
 
 @case
