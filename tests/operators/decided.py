@@ -59,14 +59,14 @@ def said(commands: Sequence[Command]) -> List[str]:
 
 
 def done(steps: Steps[T], answers: Mapping[str, Sequence[str]] = {}, faults: Mapping[Type[object], str] = {}) -> Tuple[List[Command], T]:
-    """What is yielded, and what it ends with; a line for numarun is answered as told here by its first word, or by `ok`, and the commands of which
-    a fault is named fail."""
+    """What is yielded, and what it ends with; a line for numarun is answered as told here by itself or by its first word, or by `ok`, and the
+    commands of which a fault is named fail."""
     commands: List[Command] = []
     try:
         command = next(steps)
         while True:
             commands.append(command)
-            line = command.line if isinstance(command, Ask) else command.verb.value if isinstance(command, Tell) else ""
+            line = command.line if isinstance(command, Ask) else f"{command.verb.value} {command.name}" if isinstance(command, Tell) else ""
             known: Dict[str, Sequence[str]] = {**ANSWERS, **answers}
             command = steps.send(Answer(tuple(known.get(line, known.get(line.split(" ")[0], ["ok"]))), why=faults.get(type(command))))
     except StopIteration as end:

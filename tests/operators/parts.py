@@ -88,7 +88,9 @@ def ways() -> None:
         ("has fewer", two, "1", "", [(1, False, "1"), (2, False, "1"), (2, False, "-")]), ("has more", two, "1-3", "", [(2, False, "1-3"), (2, False, "-")]),
         ("stays", stay, "1-2", "", [(2, False, "1-2"), (2, False, "1-2"), (2, False, "-")]), ("stays on more", stay, "1-3", "", [(2, False, "1-3"), (2, False, "-")]),
         ("stays on fewer", stay, "1", "", [(1, False, "1"), (2, False, "1"), (2, False, "-")]), ("on the pool with others", two, "0-3", "0-3", [(None, True, "0-3"), (2, False, "-")]),
-        ("on as many with others", two, "1-2", "1-2", [(2, False, "1-2"), (2, False, "-")]), ("on the reserved one alone", two, "0", "0", [(2, False, "0"), (2, False, "-")]),
+        ("on as many with others", two, "1-2", "1-2", [(2, False, "1-2"), (2, False, "-")]),
+        ("on fewer with others", two, "1", "1", [(2, False, "1"), (2, False, "-")]), ("on more with others", two, "1-3", "1-3", [(None, True, "1-3"), (2, False, "-")]),
+        ("on a reserved one with others", two, "0-1", "0-1", [(None, True, "0-1"), (2, False, "-")]), ("on the reserved one alone", two, "0", "0", [(2, False, "0"), (2, False, "-")]),
     )
     for name, config, has, other, expected in rows:
         turn = Turn(ledger_of(), Look(0.0))
@@ -97,7 +99,7 @@ def ways() -> None:
         demand = Demand(config, configs.asked(config, configs.Pin.ALL, turn.ledger.settings.machine))
         several = newcomers.ways_of(turn, seen, demand, seen.group.cpus)
         check(name, [(way.given.count, way.waits, print_list(way.cpus)) for way in several][:len(expected)], expected)
-        check(f"{name}: where the config can't be had", [way.given.count for way in several[-4:]], [None] * 4)
+        check(f"{name}: where the config can't be had", [(way.given.count, way.waits) for way in several[-4:]], [(None, False)] * 4)
         check(f"{name}: and where", [print_list(way.cpus) for way in several[-4:]], [print_list(cpus(has)), "-"] * 2)
         check(f"{name}: as it is, where it was given these", len(several[len(expected):]), 4)
     turn = Turn(ledger_of(), Look(0.0))
@@ -105,8 +107,13 @@ def ways() -> None:
     seen = sighting("/t/a", two, cpus=cpus("1-2"))
     turn.there = {"a": seen}
     several = newcomers.ways_of(turn, seen, Demand(two, 2), seen.group.cpus)
-    check("an agent gave it these", [(way.given.count, print_list(way.cpus)) for way in several[2:3]], [(2, "1-2")])
+    check("an agent gave it these", [(way.given.count, way.waits, print_list(way.cpus)) for way in several[2:3]], [(2, False, "1-2")])
+    check("and has none by now", len(newcomers.ways_of(turn, seen, Demand(two, 2), cpus(""))), 6)
+    listed = Demand(config_of(cpus="1-2"), 2)
+    check("just those that it names", newcomers.ways_of(turn, seen, listed, seen.group.cpus)[0].given.config, listed.config)
     turn.ledger.put(container("p", State.PINNED, 2, cpus=cpus("1-2")))
+    turn.users = None
+    check("on more than it asks for, which one has that is told", [way.waits for way in newcomers.ways_of(turn, seen, Demand(asks(1), 1), seen.group.cpus)[:2]], [True, False])
     system = dataclasses.replace(sighting("/t/s.slice"), told=Told("", None, "s.slice"))
     check("one of the system begins on what is free", print_list(newcomers.ways_of(turn, system, Demand({}, None), cpus(""))[0].cpus), "0,3-7")
 
@@ -291,6 +298,21 @@ def begins_as_it_can() -> None:
     stray.taken = {"/t/u": Taken(7, "", "", False)}
     unseen = {"/t/u": Group("/t/u", 7, cpus("4"), populated=True), "/t/a": found("a", asks(2)).group}
     check("a plan that is not made", trial_of(looked(stray, PLAN, told={"a": found("a", asks(2))}, groups=unseen)[0], True), [])
+
+
+@case
+def begins_after_a_failure() -> None:
+    """Where one that was to begin on CPUs of a plan could not be told of at all, it may have them: no plan until the next look has seen what it has."""
+    new, own = found("n", asks(1)), found("o", asks(1), "5")
+    failing = {"create n": ["refused E50 KernelFault"], "adopt n": ["refused E50 KernelFault"], "rebalance": ["plan total 0", "hold n 1", "hold o 5", "pool 0,2-4,6-7", "end"]}
+    for pool, expected in ((None, [False, True]), (cpus("0-7"), [True, False])):
+        ledger, plans_made = ledger_of(), []
+        ledger.pool = pool
+        for now in (10.0, 10.1):
+            told = as_given({"n": new, "o": own}, ledger)
+            commands, ledger = looked(ledger, failing, told=told, groups=groups_of(*told.values()), now=now)
+            plans_made.append(any(isinstance(each, Ask) and each.line == "begin direct" for each in commands))
+        check(f"plans, with a pool {pool}", plans_made, expected)
 
 
 @case
@@ -1056,8 +1078,9 @@ class Scene:
 @case
 def with_odd_configs() -> None:
     """Who comes with a config that numarun refuses runs on the pool; who had CPUs of its own of an agent before stays as it was."""
-    odd = {"ociVersion": "1.0.2", "annotations": {}, "linux": {"resources": {"cpu": {"quota": 200000, "period": 100000}}}}
-    for config, why, state in ((model.config_of(0, "90"), "E63 NoSuchCpu 90", State.SHARED), (odd, "E58 Missing root", State.POOLED)):
+    odd: Dict[str, object] = {"ociVersion": "1.0.2", "annotations": {}, "linux": {"resources": {"cpu": {"quota": 200000, "period": 100000}}}}
+    rows: Sequence[Tuple[Dict[str, object], str, State]] = ((model.config_of(0, "90"), "E63 NoSuchCpu 90", State.SHARED), (odd, "E58 Missing root", State.POOLED))
+    for config, why, state in rows:
         scene = Scene()
         scene.come(a=0)
         scene.world.bundles["a"] = model.Bundle(config, 9)
