@@ -126,6 +126,37 @@ def states_at_first() -> None:
 
 
 @case
+def held_at_first() -> None:
+    """One that was told is pinned if it has its CPUs already, and is on them; what was refused of it on the way is said if it was told otherwise then."""
+    fault, two = Reply(("refused E67 NothingAllowed",)), Demand(asks(2), 2)
+    for has, group, given, refused, state, lines in (
+        ("1-2", "1-2", two, None, State.PINNED, []), ("1-3", "1-3", two, None, State.PINNED, []), ("1-2", "1", two, None, State.ASKING, []), ("0-1", "0-1", two, None, State.ASKING, []),
+        ("", "1-2", two, None, State.ASKING, []), ("1-2", "1-2", two, fault, State.PINNED, []),
+        ("1-2", "1-2", configs.bare(cpus("1-2"), cpus("")), fault, State.KEPT, ["refused E67 NothingAllowed: a /b: it stays as it was"]),
+        ("0-7", "", configs.shared(asks(2)), fault, State.SHARED, ["refused E67 NothingAllowed: a /b: it runs on the pool"])):
+        turn, answers = Turn(ledger_of(), Look(10.0)), {"sets": [f"cpus {has} effective - mems 0 effective 0"]} if has else {}
+        way = newcomers.Way(given, False, cpus(group))
+        commands, _ = done(newcomers.hold(turn, "a", sighting(), two, way, cpus(group), refused), answers)
+        held = turn.ledger.containers["a"]
+        check(f"{has} {group} {given.count} {refused}", (held.state, said(commands), held.demand), (state, lines, given if lines else two))
+        check(f"{has} {group} {given.count} {refused}: its group has an owner", turn.owners, {"/t/a": "a"})
+    for why, lines in (("", []), ("x", ["waits a: x: it runs on the pool until there is room"])):
+        way = newcomers.Way(configs.shared(asks(2, mems="1")), True, cpus("0-7"), why=why)
+        commands, _ = done(newcomers.hold(Turn(ledger_of(members=FOUR), Look(10.0)), "a", sighting(config=asks(2)), Demand(asks(2, mems="1"), 2), way, cpus(""), None))
+        check(f"it waits, {why}", said(commands), lines)
+
+
+@case
+def refused_for_now() -> None:
+    """Who can't be told of at the moment, and runs on CPUs, lets no plan be safe; who is refused as it is is not told again."""
+    for has, known, text, expected in (("4", None, "refused E50 KernelFault", (["a"], [])), ("", None, "refused E50 KernelFault", ([], [])), ("4", "", "refused E50 KernelFault", ([], [])),
+                                       ("", "4", "refused E50 KernelFault", (["a"], [])), ("4", None, "refused E63 NoSuchCpu 9", ([], ["a"]))):
+        turn = Turn(ledger_of(), Look(10.0))
+        steps = newcomers.refuse(turn, "a", sighting(cpus=cpus(has)), Reply((text,)), None if known is None else cpus(known))
+        check(f"{has} {known} {text}", (done(steps)[1], list(turn.ledger.blocking), list(turn.ledger.refused)), (False, *expected))
+
+
+@case
 def told_in_order() -> None:
     """Those of whom something was kept come first, in that order, then the older ones; the system's own last. What they had is kept before any write."""
     ledger = ledger_of()
@@ -197,6 +228,10 @@ def with_homes() -> None:
     commands, ledger = looked(ledger_of(members=FOUR), told={"a": new}, groups=groups_of(new))
     check("its home", [line for line in said(commands) if line.startswith(("create", "home"))], ["create a /g/a", "home a 0"])
     check("is kept", print_list(ledger.containers["a"].home or ()), "0")
+    ledger, told = ledger_of(members=FOUR), {name: found(name, asks(2)) for name in "ab"}
+    ledger.pool = cpus("0-15")
+    commands, _ = looked(ledger, told=told, groups=groups_of(*told.values()))
+    check("of two, one after another", [line for line in said(commands) if line.startswith("home")], ["home a 0", "home b 1"])
 
 
 @case
@@ -211,7 +246,7 @@ def without_a_tree() -> None:
     check("gone", ("ended a" in said(commands), list(ledger.containers)), (True, []))
     told = {name: dataclasses.replace(found(name, asks(1)), group=Group("", 0)) for name in "ab"}
     commands, ledger = looked(ledger_of(root=None), told={"a": told["a"]})
-    check("none has a group", told_of(looked(ledger, told=told)[0]), ["create b -"])
+    check("none has a group", (told_of(looked(ledger, told=told)[0]), told_of(looked(ledger_of(root=None), told=told)[0])), (["create b -"], ["create a -", "create b -"]))
 
 
 @case
