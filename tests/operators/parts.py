@@ -272,6 +272,34 @@ def held_up() -> None:
     check("one of the system", looked(ledger, groups={"/t/x": Group("/t/x", 7, cpus("4"), populated=True)})[1].due, False)
 
 
+@case
+def untold() -> None:
+    """Who keeps others off, and lets no plan be made: who could not be told of, if it is there or has a process; not who is refused as it is, or has
+    the reserved CPUs alone."""
+    def seen_on(name: str, has: str) -> Any:
+        return dataclasses.replace(sighting(f"/t/{name}"), group=Group(f"/t/{name}", 7, cpus(has)))
+
+    for there, runs, refused, has, expected in ((True, False, False, "4", True), (False, True, False, "4", True), (False, False, False, "4", False), (True, False, False, "0", False),
+                                                (True, False, True, "4", False)):
+        ledger, seen = ledger_of(), seen_on("x", has)
+        turn = Turn(ledger, Look(10.0, groups={"/t/x": Group("/t/x", 7, cpus(has), populated=runs)}))
+        turn.there, ledger.refused = {"x": seen} if there else {}, {"x": seen} if refused else {}
+        ledger.blocking = {} if there else {"x": seen}
+        if there:
+            check(f"requested: {there} {runs} {refused} {has}", newcomers.requested_by_untold(turn), cpus("4") if expected else cpus(""))
+        commands, held_up = done(newcomers.is_held_up(turn))
+        check(f"held up: {there} {runs} {refused} {has}", (held_up, list(ledger.blocking), commands), (expected, ["x"] if expected else [], []))
+    ledger = ledger_of()
+    ledger.taken = {"/t/x": Taken(7, "", "", False)}
+    turn = Turn(ledger, Look(10.0, groups={"/t/x": Group("/t/x", 7, cpus("4"), populated=True)}))
+    line = "unseen /t/x: it was told of before, and there is a process in it: no plan until it is told"
+    check("unseen, said once", [said(done(newcomers.is_held_up(turn))[0]) for _ in range(2)], [[line], []])
+    turn.look = Look(10.0)
+    check("and no more", (done(newcomers.is_held_up(turn)), ledger.problems), (([], False), {}))
+    turn.strays = {"a": cpus("4")}
+    check("one has what was written by others", done(newcomers.is_held_up(turn))[1], True)
+
+
 def answered(steps: Steps[T], answer: Callable[[str], Sequence[str]]) -> Tuple[List[Command], T]:
     """What is yielded, and what it ends with; each line for numarun is answered so."""
     commands: List[Command] = []
