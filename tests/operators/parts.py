@@ -866,6 +866,25 @@ def may_stay() -> None:
 
 
 @case
+def trials() -> None:
+    """A trial knows which CPUs are off, and who has CPUs of its own, or is to get some; who is tried in it stays there if there is a plan with it."""
+    ledger = ledger_of(one("p", State.PINNED, cpus=cpus("1-2"), **asking(2)), one("s", State.SHARED, cpus=cpus("0")), one("q", State.ASKING, **asking(1)), one("k", State.KEPT, cpus=cpus("4"), **asking(1)))
+    ledger.switched = {3: "offline", 5: "online"}
+    trial, demand = room.Trial(Turn(ledger, Look(10.0))), Demand(asks(3), 3)
+    commands, _ = done(trial.open(), {"adopt p": ["refused E104 NotFree 1"], "create p": ["pid 2"]})
+    check("it begins", [each.line if isinstance(each, Ask) else type(each) for each in commands if not isinstance(each, Tell)], [OpenTrial, "offline 3", "online 5"])
+    check("with those", (told_of(commands), trial.made), (["adopt p 1-2", "create p -", "create q -", "adopt k 4"], {"p", "q", "k"}))
+    check("nothing of it is for the run", [each for each in commands if isinstance(each, (Ask, Tell)) and not each.trial], [])
+    short, plan = ["short demand 9 allowed 1-7", "member w", "end"], ["plan total 0", "hold w 1-3", "pool 0,4-7", "end"]
+    for name, answers, told, asked, outcome, made in (
+        ("w", {"create": ["refused E66 QuotaTooLarge"]}, ["create w -"], [], "refused E66 QuotaTooLarge", False), ("w", {"rebalance": short}, ["create w -"], ["rebalance", "kill w KILL", "delete w"], "short", False),
+        ("w", {"rebalance": plan}, ["create w -"], ["rebalance"], "plan", True), ("p", {"rebalance": short}, ["update p -"], ["rebalance"], "short", True),
+        ("p", {"update": ["refused E66 QuotaTooLarge"]}, ["update p -"], [], "refused E66 QuotaTooLarge", True)):
+        commands, found_here = done(trial.fits(name, demand), answers)
+        check(f"{name} {answers}", (told_of(commands), [each.line for each in commands if isinstance(each, Ask)], found_here.text[:len(outcome)], name in trial.made), (told, asked, outcome, made))
+
+
+@case
 def most_of_it() -> None:
     """From what one wants down to what it takes, or has already, the most for which there is a plan."""
     def tried(held: Any, wanted: Demand, *several: Sequence[str]) -> Tuple[List[Optional[int]], Optional[int], Optional[str]]:
