@@ -10,7 +10,7 @@ import model
 from decided import EIGHT, FOUR, asks, config_of, container, cpus, done, ledger_of, looked, machine_of, said, sighting
 from trial import case, check
 from numarun_host import changes, configs, newcomers, plans, room, telling
-from numarun_host.commands import Answer, Ask, Command, Drop, KeepCertificate, Link, OpenTrial, RunPool, SaveTaken, Say, SetLimit, Steps, T, Taken, Tell, Unlink, Verb, Write
+from numarun_host.commands import Answer, Ask, CloseTrial, Command, Drop, KeepCertificate, Link, OpenTrial, RunPool, SaveTaken, Say, SetLimit, Steps, T, Taken, Tell, Unlink, Verb, Write
 from numarun_host.configs import Demand
 from numarun_host.cpus import print_list
 from numarun_host.ledger import Kind, Ledger, Pause, Problem, State, Topic
@@ -831,11 +831,12 @@ def renewed() -> None:
 def floor() -> None:
     """What fits where the pool keeps some CPUs."""
     for running, given, keeps, wanted, takes, expected in (("0-7", 2, 2, 4, 4, 4), ("0-7", 2, 2, 5, 5, None), ("0-7", 2, 2, 6, 2, 4), ("0-7", 6, 2, 1, 1, None), ("0-7", 7, 2, 1, 1, None),
-                                                           ("0-7", 2, 0, 8, 8, 8), ("0-7", 2, 2, 9, 1, 9), ("0-3", 2, 2, 1, 1, None), ("0-7", 2, 2, 0, 1, 0)):
+                                                           ("0-7", 2, 0, 8, 8, 8), ("0-7", 2, 2, 9, 1, 9), ("0-7", 2, 2, 8, 1, 4), ("0-7", 2, 2, 6, 4, 4), ("0-7", 5, 2, 3, 1, 1), ("0-3", 2, 2, 1, 1, None), ("0-7", 2, 2, 0, 1, 0)):
         ledger = ledger_of(one("p", State.PINNED, **asking(given)), one("w", State.WAITING, **least(wanted, takes, 0)), pool_least=keeps)
         ledger.running = cpus(running)
         fits = room.fit_to_pool(ledger, ledger.containers["w"], ledger.containers["w"].demand)
         check(f"{running} {given} {keeps} {wanted} {takes}", fits.count if fits else None, expected)
+        check(f"{running} {given} {keeps} {wanted} {takes}: as it is", fits is ledger.containers["w"].demand, expected == wanted)
     ledger = ledger_of(one("p", State.PINNED, **asking(3)), one("q", State.ASKING, **asking(2)), one("w", State.WAITING, **asking(1, 0)), one("s", State.SHARED), pool_least=2)
     check("left", (room.left_to_the_pool(ledger), room.pool_text(ledger, 2), room.pool_text(ledger, 9)),
           (1, "it would leave 1 CPUs to the pool, and that keeps 2", "it would leave 0 CPUs to the pool, and that keeps 2"))
@@ -882,6 +883,51 @@ def trials() -> None:
         ("p", {"update": ["refused E66 QuotaTooLarge"]}, ["update p -"], [], "refused E66 QuotaTooLarge", True)):
         commands, found_here = done(trial.fits(name, demand), answers)
         check(f"{name} {answers}", (told_of(commands), [each.line for each in commands if isinstance(each, Ask)], found_here.text[:len(outcome)], name in trial.made), (told, asked, outcome, made))
+
+
+@case
+def rooms() -> None:
+    """Nobody is tried where nobody wants more, or those who have theirs are short; the trial is closed then."""
+    check("nobody wants more", done(room.make_room(Turn(ledger_of(one("p", State.PINNED, **asking(2))), Look(10.0)))), ([], True))
+    for answer, told, expected in ((["short demand 9 allowed 1-7", "member p", "end"], ["create p -"], False), (["plan total 0", "hold p 1-2", "pool 0,3-7", "end"], ["create p -", "create w -", "update w -"], True)):
+        turn = Turn(ledger_of(one("p", State.PINNED, **asking(2)), one("w", State.WAITING, **asking(2, 0))), Look(10.0))
+        commands, tried = done(room.make_room(turn), {"rebalance": answer})
+        check(f"{answer[0]}", (told_of(commands), tried, [type(each) for each in commands if isinstance(each, (OpenTrial, CloseTrial))]), (told, expected, [OpenTrial, CloseTrial]))
+    ledger = ledger_of(one("w", State.WAITING, **asking(2, 0)), pool_least=2)
+    nothing = Demand({}, None)
+    check("one that asks for none by now", room.fit_to_pool(ledger, ledger.containers["w"], nothing) is nothing, True)
+
+
+@case
+def rooms_said() -> None:
+    """What is said of one that has no room: it waits, or keeps what it has; of one that takes fewer it is said elsewhere."""
+    short, plan = ["short demand 9 allowed 1-7", "member a", "end"], ["plan total 0", "hold a 3-4", "pool 0-2,5-7", "end"]
+    stay = {"numarun.stay": "true"}
+    rows: Sequence[Tuple[str, State, Mapping[str, Any], int, Sequence[str], Sequence[str]]] = (
+        ("waits for the pool", State.WAITING, asking(3, 0), 6, plan, ["waits a: it would leave 5 CPUs to the pool, and that keeps 6: it runs on the pool until there is room"]),
+        ("keeps for the pool", State.PINNED, asking(2, wanted=5), 4, plan, ["keeps a: it would leave 3 CPUs to the pool, and that keeps 4: it stays at 2 CPUs until there is room"]),
+        ("waits", State.WAITING, asking(3, 0), 0, short, ["waits a: no place: it runs on the pool until there is room"]),
+        ("keeps", State.PINNED, asking(2, wanted=5), 0, short, ["keeps a: short demand 9 allowed 1-7: it stays at 2 CPUs until there is room"]),
+        ("would move", State.PINNED, asking(2, wanted=3, annotations=stay), 0, plan, ["keeps a: that would move it: it stays at 2 CPUs until there is room"]),
+        ("takes fewer", State.PINNED, least(3, 1, 2), 0, short, []),
+        ("refused", State.PINNED, asking(2, wanted=5), 0, ["refused E66 QuotaTooLarge"], ["refused E66 QuotaTooLarge: a /b: it stays as it was"]),
+        ("refused, and it waits", State.WAITING, asking(3, 0), 0, ["refused E66 QuotaTooLarge"], ["refused E66 QuotaTooLarge: a /b: it stays as it was"]),
+        ("refused, and it takes fewer", State.PINNED, least(3, 1, 2), 0, ["refused E66 QuotaTooLarge"], ["refused E66 QuotaTooLarge: a /b: it stays as it was"]))
+    for name, state, demand, keeps, answer, expected in rows:
+        held = one("a", state, cpus=cpus("1-2"), **demand)
+        ledger = ledger_of(dataclasses.replace(held, seen=dataclasses.replace(held.seen, config=held.demand.config)), pool_least=keeps)
+        trial = room.Trial(Turn(ledger, Look(10.0)), {"a"} if state.is_pinned else set())
+        commands, _ = done(room.try_one(trial, ledger.containers["a"]), {"rebalance": answer})
+        check(name, (said(commands), [each for each in commands if isinstance(each, Tell) and not each.trial], ledger.due), (expected, [], False))
+        now, refused = ledger.containers["a"], name.startswith("refused")
+        check(f"{name}: what it wants by then", now.wanted, None if refused else held.wanted)
+        check(f"{name}: what it asks for by then", now.demand, now.given if refused and not held.wanted else held.demand)
+        check(f"{name}: what it is by then", now.state, State.SHARED if refused and state is State.WAITING else state)
+    ledger = ledger_of(one("a", State.PINNED, cpus=cpus("1-2"), **asking(2, wanted=3)))
+    ledger.problems[Topic.CONTAINER, "a"] = Problem(Kind.KEEPS, "a", "a")
+    commands, _ = done(room.try_one(room.Trial(Turn(ledger, Look(10.0)), {"a"}), ledger.containers["a"]), {"rebalance": ["plan total 0", "hold a 1-3", "pool 0,4-7", "end"]})
+    now = ledger.containers["a"]
+    check("there is room", (said(commands), now.demand.count, now.given.count, now.wanted, ledger.due, ledger.problems), (["update a /b"], 3, 3, None, True, {}))
 
 
 @case
