@@ -933,8 +933,8 @@ def rooms_said() -> None:
 @case
 def most_of_it() -> None:
     """From what one wants down to what it takes, or has already, the most for which there is a plan."""
-    def tried(held: Any, wanted: Demand, *several: Sequence[str]) -> Tuple[List[Optional[int]], Optional[int], Optional[str]]:
-        turn, left = Turn(ledger_of(held), Look(0.0)), list(several)
+    def tried(held: Any, wanted: Demand, *several: Sequence[str], members: Mapping[str, object] = EIGHT) -> Tuple[List[Optional[int]], Optional[int], Optional[str]]:
+        turn, left = Turn(ledger_of(held, members=members), Look(0.0)), list(several)
         trial = room.Trial(turn, {"a"} if held.state.is_pinned else set())
         steps, told = room.most(trial, held, wanted), []
         try:
@@ -963,6 +963,41 @@ def most_of_it() -> None:
     )
     for held, wanted, answers, expected in rows:
         check(f"{held.state} {wanted.count} {len(answers)}", tried(held, wanted, *answers), expected)
+    waits = one("a", State.WAITING, **least(8, 1, 0))
+    check("down to one", tried(waits, least(2, 1)["demand"], short(2, "1"), plan), ([2, 1], 1, "short demand 2 allowed 1 member a"))
+    check("in whole cores", tried(waits, least(8, 1)["demand"], short(8, "2-6"), plan, members=FOUR), ([8, 4], 4, "short demand 8 allowed 2-6 member a"))
+
+
+@case
+def given_more() -> None:
+    """Who is given what it wanted has it once a plan follows, and its home is said, if no nodes were written for it; where that is refused all stays."""
+    wanted = Demand(asks(2, mems="1"), 2)
+    for answer, nodes, state, lines in (("ok", None, State.PINNED, ["update a /b", "home a 1"]), ("ok", cpus("2"), State.PINNED, ["update a /b"]),
+                                        ("refused E50 KernelFault", None, State.WAITING, ["failed refused E50 KernelFault"])):
+        held = one("a", State.WAITING, cpus=cpus("0-15"), **asking(2, 0, 3))
+        ledger, is_done = ledger_of(dataclasses.replace(held, seen=dataclasses.replace(held.seen, nodes=nodes)), members=FOUR), state is State.PINNED
+        ledger.problems[Topic.CONTAINER, "a"] = Problem(Kind.WAITS, "a", "a")
+        commands, _ = done(room.give(Turn(ledger, Look(10.0)), ledger.containers["a"], wanted, wanted), {"update": [answer]})
+        now = ledger.containers["a"]
+        check(f"{answer} {nodes}", (said(commands), now.state, ledger.due, not ledger.problems), (lines, state, is_done, is_done))
+        check(f"{answer} {nodes}: what it is", (now.demand, now.wanted, now.followed), (wanted, None, nodes) if is_done else (held.demand, held.wanted, None))
+
+
+@case
+def made_to_wait() -> None:
+    """Who is to wait runs on the pool, and asks later for what it wants by now; not who waits already, nor where that is refused."""
+    for state, demand, answer, expected, told, lines in (
+        (State.PINNED, asking(2), "ok", (True, State.WAITING, 2), ["update a -"], ["waits a: x: it runs on the pool until there is room"]),
+        (State.PINNED, asking(2, wanted=3), "ok", (True, State.WAITING, 3), ["update a -"], ["waits a: x: it runs on the pool until there is room"]),
+        (State.WAITING, asking(2, 0), "ok", (False, State.WAITING, 2), [], []),
+        (State.PINNED, asking(2), "refused E50 KernelFault", (False, State.PINNED, 2), ["update a -"], ["failed refused E50 KernelFault"])):
+        turn = Turn(ledger_of(one("a", state, **demand)), Look(10.0))
+        commands, waits = done(room.make_wait(turn, "a", "x"), {"update": [answer]})
+        now = turn.ledger.containers["a"]
+        check(f"{state} {demand['wanted']} {answer}", ((waits, now.state, now.demand.count), told_of(commands), said(commands)), (expected, told, lines))
+        quotas = [configs.quota_of(each.config) for each in commands if isinstance(each, Tell)]
+        check(f"{state} {demand['wanted']} {answer}: what is told", (quotas, now.wanted), ([None] * len(told), None))
+    check("said once", said(done(room.say_waits(turn, "a", "y"))[0]) + said(done(room.say_waits(turn, "a", "z"))[0]), ["waits a: y: it runs on the pool until there is room"])
 
 
 @case
