@@ -963,6 +963,9 @@ def most_of_it() -> None:
     )
     for held, wanted, answers, expected in rows:
         check(f"{held.state} {wanted.count} {len(answers)}", tried(held, wanted, *answers), expected)
+    stays = one("a", State.PINNED, cpus=cpus("1"), **asking(5, 1, annotations={"numarun.least": "1", "numarun.stay": "true"}))
+    stays = dataclasses.replace(stays, seen=dataclasses.replace(stays.seen, config=stays.demand.config))
+    check("one that would be moved", tried(stays, stays.demand, short(5, "1-3"), ["plan total 0", "hold a 2-4", "pool 0", "end"]), ([5, 3, 1], None, "short demand 5 allowed 1-3 member a"))
     waits = one("a", State.WAITING, **least(8, 1, 0))
     check("down to one", tried(waits, least(2, 1)["demand"], short(2, "1"), plan), ([2, 1], 1, "short demand 2 allowed 1 member a"))
     check("in whole cores", tried(waits, least(8, 1)["demand"], short(8, "2-6"), plan, members=FOUR), ([8, 4], 4, "short demand 8 allowed 2-6 member a"))
@@ -986,11 +989,12 @@ def given_more() -> None:
 @case
 def made_to_wait() -> None:
     """Who is to wait runs on the pool, and asks later for what it wants by now; not who waits already, nor where that is refused."""
-    for state, demand, answer, expected, told, lines in (
+    rows: Sequence[Tuple[State, Mapping[str, Any], str, Tuple[bool, State, int], Sequence[str], Sequence[str]]] = (
         (State.PINNED, asking(2), "ok", (True, State.WAITING, 2), ["update a -"], ["waits a: x: it runs on the pool until there is room"]),
         (State.PINNED, asking(2, wanted=3), "ok", (True, State.WAITING, 3), ["update a -"], ["waits a: x: it runs on the pool until there is room"]),
         (State.WAITING, asking(2, 0), "ok", (False, State.WAITING, 2), [], []),
-        (State.PINNED, asking(2), "refused E50 KernelFault", (False, State.PINNED, 2), ["update a -"], ["failed refused E50 KernelFault"])):
+        (State.PINNED, asking(2), "refused E50 KernelFault", (False, State.PINNED, 2), ["update a -"], ["failed refused E50 KernelFault"]))
+    for state, demand, answer, expected, told, lines in rows:
         turn = Turn(ledger_of(one("a", state, **demand)), Look(10.0))
         commands, waits = done(room.make_wait(turn, "a", "x"), {"update": [answer]})
         now = turn.ledger.containers["a"]
