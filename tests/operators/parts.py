@@ -1038,6 +1038,8 @@ def eased() -> None:
     done(room.ease(turn, Shortage(6, cpus("1-5"), ("a", "b", "c"), "")))
     check("one that is never moved may have others", (turn.ledger.containers["b"].given, turn.ledger.containers["c"].state), (asking(2)["demand"], State.PINNED))
     check("nobody", after(one("s", State.SHARED), members=()), (False, []))
+    few = Turn(ledger_of(one("a", State.PINNED, **least(3, 1, 2))), Look(0.0))
+    check("who takes fewer asks for no more", done(room.loosen(few, "a")), ([], False))
 
 
 def pinned_as(name: str) -> Any:
@@ -1054,6 +1056,9 @@ def spared() -> None:
     check("said", said(commands), ["waits d: it would leave 0 CPUs to the pool, and that keeps 3: it runs on the pool until there is room"])
     commands, _ = done(room.spare_the_pool(turn))
     check("it is enough", commands, [])
+    turn = Turn(ledger_of(one("a", State.PINNED, **least(2, 1)), one("b", State.ASKING, **asking(1)), pool_least=7), Look(0.0))
+    done(room.spare_the_pool(turn))
+    check("who has its own keeps it", [(held.state, held.given.count) for held in turn.ledger.containers.values()], [(State.PINNED, 2), (State.WAITING, None)])
     turn = Turn(ledger_of(one("a", State.PINNED, **asking(2)), one("b", State.ASKING, **asking(4)), pool_least=3), Look(0.0))
     check("what would be left", said(done(room.spare_the_pool(turn))[0]), ["waits b: it would leave 2 CPUs to the pool, and that keeps 3: it runs on the pool until there is room"])
 
