@@ -1269,6 +1269,18 @@ def with_odd_configs() -> None:
 
 
 @case
+def odd_on_the_cpus_of_another() -> None:
+    """What is said of one with an odd config is why that is refused, though its CPUs are another one's too."""
+    scene = Scene()
+    scene.come(p=2)
+    scene.look()
+    scene.come(a=0)
+    scene.world.places[scene.world.path("a")].cpus = scene.world.places[scene.world.path("p")].cpus
+    scene.world.bundles["a"] = model.Bundle(model.config_of(0, "90"), 9)
+    check("said", (scene.look(), scene.count("a", "p")), (["refused E63 NoSuchCpu 90: a /g/a: it runs on the pool"], [6, 2]))
+
+
+@case
 def room_behind_a_plan() -> None:
     """Where somebody is to wait behind all, those who wait already may have room, at the same look."""
     for least, asked, why in ((0, 6, "short demand 8 allowed 1-7"), (2, 5, "it would leave 1 CPUs to the pool, and that keeps 2")):
