@@ -913,6 +913,7 @@ def rooms_said() -> None:
         ("would move", State.PINNED, asking(2, wanted=3, annotations=stay), 0, plan, ["keeps a: that would move it: it stays at 2 CPUs until there is room"]),
         ("takes fewer", State.PINNED, least(3, 1, 2), 0, short, []),
         ("refused", State.PINNED, asking(2, wanted=5), 0, ["refused E66 QuotaTooLarge"], ["refused E66 QuotaTooLarge: a /b: it stays as it was"]),
+        ("refused, and it has fewer", State.PINNED, asking(3, 2, 5), 0, ["refused E66 QuotaTooLarge"], ["refused E66 QuotaTooLarge: a /b: it stays as it was"]),
         ("refused, and it waits", State.WAITING, asking(3, 0), 0, ["refused E66 QuotaTooLarge"], ["refused E66 QuotaTooLarge: a /b: it stays as it was"]),
         ("refused, and it takes fewer", State.PINNED, least(3, 1, 2), 0, ["refused E66 QuotaTooLarge"], ["refused E66 QuotaTooLarge: a /b: it stays as it was"]))
     for name, state, demand, keeps, answer, expected in rows:
