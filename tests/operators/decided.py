@@ -986,6 +986,50 @@ def as_before() -> None:
 
 
 @case
+def told_no_more() -> None:
+    """Who is told of no more and has a process stays, which is said once, until it is told of again or has ended; a group of the system's does not."""
+    one, runs = container("a", State.PINNED, 1, cpus=cpus("1")), Group("/t/a", 1, cpus("1"), populated=True)
+    line, lines, ledger = "stays a: it is told of no more; there is a process in its group", [], ledger_of(one)
+    for told in ({}, {}, {"a": as_given(one)}, {}):
+        commands, ledger = looked(ledger, told=told, groups={"/t/a": runs})
+        lines.append(said(commands))
+        check(f"it is there, {bool(told)}", ("a" in ledger.containers, bool(ledger.problems)), (True, not told))
+    check("said", lines, [[line], [], [], [line]])
+    check("without a process", said(looked(ledger_of(one), groups={"/t/a": dataclasses.replace(runs, populated=False)})[0])[:1], ["ended a"])
+    system = dataclasses.replace(one, seen=dataclasses.replace(one.seen, told=Told("", None, "a")))
+    check("one of the system", said(looked(ledger_of(system), groups={"/t/a": runs})[0])[:1], ["ended a"])
+
+
+@case
+def missing() -> None:
+    """Who can't be seen is named: at once if it is in a group outside of the partition, or stays since it has a process; else at the second look. Nothing is
+    kept of it once it is gone."""
+    one, told = container("a", State.PINNED, 1, cpus=cpus("1")), Told("/b", "/f")
+    outside, parts, none = Missing(told, "its group is not below /c", outside=True), Missing(told, "not JSON", in_parts=True), Missing(told, "no file")
+    stays, absent = "stays a: not JSON; there is a process in its group", "absent a: not JSON"
+    rows: Sequence[Tuple[str, Ledger, Missing, bool, Sequence[Sequence[str]]]] = (
+        ("outside", ledger_of(), outside, True, [["outside a: its group is not below /c"], []]), ("it runs", ledger_of(one), parts, True, [[stays], []]),
+        ("it does not", ledger_of(one), parts, False, [["ended a"], [], [absent]]), ("a new one", ledger_of(), none, True, [[], ["absent a: no file"]]),
+        ("a new one, without a tree", ledger_of(root=None), parts, False, [[], [absent]]), ("without a tree", ledger_of(one, root=None), parts, False, [[], []]))
+    for name, ledger, found, runs, expected in rows:
+        lines, groups = [], {"/t/a": Group("/t/a", 1, cpus("1"), populated=runs)} if ledger.has_tree else {}
+        for _ in expected:
+            commands, ledger = looked(ledger, told={"a": found}, groups=groups)
+            lines.append([line for line in said(commands) if line.startswith(("outside", "stays", "absent", "ended"))])
+        check(name, lines, expected)
+        ledger.pauses["container", "a"] = ledger.pauses["limit", "b"] = Pause(99.0, 1.0)
+        _, ledger = looked(ledger)
+        check(f"{name}: gone", ([key for key in ledger.problems if key[1] == "a"], [of for what, of in ledger.pauses if what != "plan"], ledger.sighted), ([], [], {}))
+    ledger = ledger_of()
+    ledger.problems[Topic.STAYS, "a"] = ledger.problems[Topic.CONTAINER, "a"] = Problem(Kind.ABSENT, "a", "a")
+    _, ledger = looked(ledger, told={"a": as_given(one)}, groups={"/t/a": as_given(one).group})
+    check("it is seen", ledger.problems, {})
+    ledger.problems[Topic.STAYS, "a"] = Problem(Kind.STAYS, "a", "a")
+    _, ledger = looked(ledger, told={"a": outside})
+    check("it is outside by now", (Topic.STAYS, "a") in ledger.problems, False)
+
+
+@case
 def replies() -> None:
     for text, fault, momentary in (("refused E50 KernelFault", 50, True), ("refused E45 NoPids", 45, True), ("refused E111 NoBundle", 111, True),
                                    ("refused E104 NotFree 3", 104, False), ("ok", None, False), ("refused E5 X", None, False)):
