@@ -941,6 +941,8 @@ def seen_again() -> None:
     found = Found(Told("/b", "/f"), ("s",), asks(1), Group("/t/a", 1, nodes=cpus("0")))
     first = sightings.sighting_of(ledger, "a", found)
     check("the same", sightings.sighting_of(ledger, "a", found) is first, True)
+    seen = ledger.change("a", seen=first).seen
+    check("as the container was seen", sightings.sighting_of(ledger, "a", dataclasses.replace(found)) is seen, True)
     ledger.change("a", followed=cpus("3"))
     check("another container", sightings.sighting_of(ledger, "a", found).nodes, cpus("3"))
     ledger.taken["/t/a"] = Taken(1, "5", "", False, None, True)
@@ -983,6 +985,14 @@ def as_before() -> None:
         check(f"{pinned} on {has!r}, {kept}, {populated}, {system}", what, expected)
     turn = Turn(ledger_of(), Look(0.0))
     check("nobody held it", sightings.as_before(turn, "a", Told("/b", "/f")), None)
+    ledger = ledger_of()
+    ledger.before, ledger.taken = {"a": ("/t/a", True)}, {"/t/a": Taken(1, "", "", False)}
+    commands, _ = looked(ledger, told={"a": Missing(Told("/b", "/f"), "not JSON")}, groups={"/t/a": Group("/t/a", 1, cpus("2"), populated=True)})
+    check("in a look", said(commands)[:2], ["stays a: not JSON; there is a process in its group", "adopt a /t/a 2"])
+    check("nodes of a group", [sightings.nodes_of(ledger, Group("/t/a", 1, nodes=None if text is None else cpus(text))) for text in (None, "", "0", "1")], [cpus("")] * 2 + [cpus("0"), cpus("")])
+    one, other = container("a", State.PINNED, 1), Group("/t/a", 1, cpus("5"))
+    for groups, expected in (({}, one.seen.group), ({"/t/a": other}, other)):
+        check(f"as it was, {len(groups)}", sightings.as_it_was(Turn(ledger, Look(0.0, groups=groups)), one).group, expected)
 
 
 @case

@@ -429,7 +429,7 @@ def begins_without_a_trial() -> None:
     check("one was renewed", trials(new, renewed={"/t/x": Taken(1, "", "", False)}), 0)
     blocking = dataclasses.replace(sighting("/t/x"), group=Group("/t/x", 7, cpus("4")))
     check("one can't be told of", [trials(new, groups={"/t/x": Group("/t/x", 7, populated=runs)}, blocking={"x": blocking}) for runs in (True, False)], [0, 1])
-    paused = {"blocking": {"x": blocking}, "pauses": {("container", "x"): Pause(99.0, 1.0)}}
+    paused: Dict[str, Any] = {"blocking": {"x": blocking}, "pauses": {("container", "x"): Pause(99.0, 1.0)}}
     check("one waits until it is told again", trials(new, found("x", asks(1), "4"), **paused), 0)
     check("one that may be told of by now", trials(new, own, blocking={"o": dataclasses.replace(blocking, group=own.group)}), 1)
     commands, _ = looked(ledger_of(), {"rebalance": ["plan total 0", "hold n 1", "pool 0,2-7", "end"], "sets n": ["cpus 1 effective 1 mems 0 effective 0"]}, told={"n": new},
