@@ -930,8 +930,8 @@ def seen_sets() -> None:
 
     other, no_cpus = dataclasses.replace(seen.group, inode=2), dataclasses.replace(seen.group, cpus=cpus(""))
     check("the same", [same(), same(stamp=("t",)), same(group=other), same(stamp=("t",), group=no_cpus), same(group=no_cpus),
-                       same(stamp=("t",), told=dataclasses.replace(seen.told, turn=1)), same(stamp=("t",), group=dataclasses.replace(seen.group, path="/t/b"))],
-          [True, True, False, False, True, False, False])
+                       same(stamp=("t",), told=dataclasses.replace(seen.told, turn=1)), same(stamp=("t",), group=dataclasses.replace(seen.group, path="/t/b")),
+                       same(told=Told("/b", None))], [True, True, False, False, True, False, False, False])
 
 
 @case
@@ -983,6 +983,14 @@ def as_before() -> None:
         known = configs.at(found.config, "linux", "resources", "cpu", "cpus") if found else None
         what = (configs.asked(found.config, Pin.ANNOTATED, ledger.settings.machine), known or "-") if found else None
         check(f"{pinned} on {has!r}, {kept}, {populated}, {system}", what, expected)
+    ledger.before, ledger.taken, ledger.reserved = {"a": ("/t/a", None)}, {"/t/a": Taken(1, "", "", False)}, cpus("7")
+    for has, expected in (("0,3", 0), ("3,7", 0), ("3-4", 2)):
+        found = sightings.as_before(Turn(ledger, Look(0.0, groups={"/t/a": Group("/t/a", 1, cpus(has), populated=True)})), "a", Told("/b", "/f"))
+        known = found and configs.at(found.config, "linux", "resources", "cpu", "cpus")
+        check(f"on {has}, where others are reserved by now", len(cpus(str(known))) if known else 0, expected)
+    ledger.reserved, one = cpus("0"), Found(Told("/b", "/f"), ("s",), {}, Group("/t/a", 1, cpus("0-7"), populated=True))
+    commands, _ = looked(ledger, told={"new": one}, groups={"/t/a": one.group})
+    check("another id has its group now", said(commands)[:1], ["adopt new /b 0-7"])
     turn = Turn(ledger_of(), Look(0.0))
     check("nobody held it", sightings.as_before(turn, "a", Told("/b", "/f")), None)
     ledger = ledger_of()
@@ -990,9 +998,9 @@ def as_before() -> None:
     commands, _ = looked(ledger, told={"a": Missing(Told("/b", "/f"), "not JSON")}, groups={"/t/a": Group("/t/a", 1, cpus("2"), populated=True)})
     check("in a look", said(commands)[:2], ["stays a: not JSON; there is a process in its group", "adopt a /t/a 2"])
     check("nodes of a group", [sightings.nodes_of(ledger, Group("/t/a", 1, nodes=None if text is None else cpus(text))) for text in (None, "", "0", "1")], [cpus("")] * 2 + [cpus("0"), cpus("")])
-    one, other = container("a", State.PINNED, 1), Group("/t/a", 1, cpus("5"))
-    for groups, expected in (({}, one.seen.group), ({"/t/a": other}, other)):
-        check(f"as it was, {len(groups)}", sightings.as_it_was(Turn(ledger, Look(0.0, groups=groups)), one).group, expected)
+    held, other = container("a", State.PINNED, 1), Group("/t/a", 1, cpus("5"))
+    there, gone = Turn(ledger, Look(0.0, groups={"/t/a": other})), Turn(ledger, Look(0.0))
+    check("as it was", [sightings.as_it_was(turn, held).group for turn in (there, gone)], [other, held.seen.group])
 
 
 @case
