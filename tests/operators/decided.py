@@ -984,10 +984,9 @@ def as_before() -> None:
         what = (configs.asked(found.config, Pin.ANNOTATED, ledger.settings.machine), known or "-") if found else None
         check(f"{pinned} on {has!r}, {kept}, {populated}, {system}", what, expected)
     ledger.before, ledger.taken, ledger.reserved = {"a": ("/t/a", None)}, {"/t/a": Taken(1, "", "", False)}, cpus("7")
-    for has, expected in (("0,3", 0), ("3,7", 0), ("3-4", 2)):
+    for has, own in (("0,3", False), ("3,7", False), ("3-4", True)):
         found = sightings.as_before(Turn(ledger, Look(0.0, groups={"/t/a": Group("/t/a", 1, cpus(has), populated=True)})), "a", Told("/b", "/f"))
-        known = found and configs.at(found.config, "linux", "resources", "cpu", "cpus")
-        check(f"on {has}, where others are reserved by now", len(cpus(str(known))) if known else 0, expected)
+        check(f"on {has}, where others are reserved by now", bool(found and configs.at(found.config, "linux", "resources", "cpu", "cpus")), own)
     ledger.reserved, one = cpus("0"), Found(Told("/b", "/f"), ("s",), {}, Group("/t/a", 1, cpus("0-7"), populated=True))
     commands, _ = looked(ledger, told={"new": one}, groups={"/t/a": one.group})
     check("another id has its group now", said(commands)[:1], ["adopt new /b 0-7"])
