@@ -461,6 +461,13 @@ def groups_let_go() -> None:
     check("said once", said(tried_again(slices.let_go(turn))), [])
     turn.on_the_way = {}
     check("nobody is below: it is silent", said(tried_again(slices.let_go(turn))), [])
+    free = Turn(ledger_of(), Look(0.0, groups=tree(s_slice="0-7", x_slice="0,3"), slices=("s.slice", "x.slice", "gone.slice"), busy=frozenset({"/t/x.slice"})))
+    free.on_the_way = {"/t/x.slice": "c", "/t/gone.slice": "c"}
+    free.ledger.problems[Topic.SLICE, "/t/s.slice"], free.ledger.taken = Problem(Kind.REFUSED, "/t/s.slice", ""), {"/t/s.slice": Taken(1, "", "", True), "/t/v": Taken(1, "", "", True)}
+    commands, _ = done(slices.let_go(free))
+    check("on the way, though nothing was taken of it", said(commands), ["all CPUs for /t/x.slice: c is below it",
+                                                                          "refused /t/x.slice: it can't be on the pool, since c is below it; its own processes run on all CPUs"])
+    check("one that has all", (Topic.SLICE, "/t/s.slice") in free.ledger.problems, False)
 
 
 def tried_again(steps: Steps[T]) -> List[Command]:
@@ -483,6 +490,9 @@ def given_back() -> None:
     ledger.taken = {}
     commands = tried_again(slices.give_back(turn, "/t/a"))
     check("an empty list is not taken", [(one.file, one.text) for one in commands if isinstance(one, Write)], [("cpuset.cpus", ""), ("cpuset.cpus", "0-15")])
+    ledger.taken = {"/t/a": Taken(1, "1-2", "0", True)}
+    commands = tried_again(slices.give_back(turn, "/t/a"))
+    check("another one", [(one.file, one.text) for one in commands if isinstance(one, Write)], [("cpuset.cpus", "1-2")])
 
 
 @case
