@@ -9,7 +9,8 @@ from typing import Any, Callable, Dict, List, Mapping, Optional, Sequence, Tuple
 import model
 from decided import EIGHT, FOUR, asks, config_of, container, cpus, done, ledger_of, looked, machine_of, said, sighting
 from trial import case, check
-from numarun_host import changes, configs, newcomers, plans, room, telling
+from numarun_host import beginnings, changes, configs, newcomers, plans, room, telling
+from numarun_host.beginnings import Comer
 from numarun_host.commands import Answer, Ask, CloseTrial, Command, Drop, KeepCertificate, Link, OpenTrial, RunPool, SaveTaken, Say, SetLimit, Steps, T, Taken, Tell, Unlink, Verb, Write
 from numarun_host.configs import Demand
 from numarun_host.cpus import print_list
@@ -439,6 +440,33 @@ def begins_without_a_trial() -> None:
     turn = Turn(ledger_of(drifted), Look(10.0, groups=groups_of(new)))
     turn.there, turn.strays = {"n": sighting("/t/n", asks(1))}, {"a": cpus("5")}
     check("one has what was written by others", done(newcomers.plan_ways(turn, turn.there)), ([], {}))
+
+
+def comer(name: str, count: Optional[int], has: str = "") -> Comer:
+    return Comer(name, Demand(asks(count) if count else config_of(), count), cpus(has), bool(has))
+
+
+@case
+def who_begins_to_wait() -> None:
+    """The youngest who have no CPUs wait, as many as would bring the pool below what it keeps; who asks for none does not, nor who asks for more than there are."""
+    several = (comer("k", 3, "1-3"), comer("s", None, "4"), comer("t", None), comer("fits", 2), comer("more", 1), comer("all", 8), comer("refused", 9))
+    for keeps, expected in ((0, {}), (3, {"more": 2, "all": 0})):
+        lines = {name: f"it would leave {left} CPUs to the pool, and that keeps 3" for name, left in expected.items()}
+        check(f"the pool keeps {keeps}", beginnings.those_who_wait(ledger_of(pool_least=keeps), several), lines)
+
+
+@case
+def beginnings_by_plan() -> None:
+    """Those on the pool begin on what nobody has as its own by now. In a shortage the youngest of its members waits, each once."""
+    plan = ["plan total 50", "hold p 3-4", "hold a 1-2", "pool 0,1-2,5-7", "end"]
+    turn = Turn(ledger_of(one("p", State.PINNED, cpus=cpus("1-2"), **asking(2))), Look(10.0))
+    commands, found_here = done(beginnings.beginnings(turn, (comer("s", None), comer("own", None, "5"), comer("with", None, "0,6"))), {"rebalance": plan})
+    check("on the pool", {name: (print_list(begins.cpus), begins.waits) for name, begins in found_here.items()}, dict.fromkeys(("s", "own", "with"), ("0,6-7", None)))
+    check("the trial is closed", [type(each) for each in commands][-1], CloseTrial)
+    short = ["short demand 9 allowed 1-7", "member a", "member k", "end"]
+    commands, (outcome, waits) = done(beginnings.plan_of(Turn(ledger_of(), Look(10.0)), (comer("a", 5), comer("k", 1, "1"), comer("young", 5))), {"rebalance": short})
+    check("who waits", (waits, outcome.is_plan), ({"a": "short demand 9 allowed 1-7"}, False))
+    check("it is ended in the trial", [each.line for each in commands if isinstance(each, Ask)], ["rebalance", "kill a KILL", "delete a", "rebalance"])
 
 
 @case
