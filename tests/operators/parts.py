@@ -450,9 +450,9 @@ def comer(name: str, count: Optional[int], has: str = "") -> Comer:
 def who_begins_to_wait() -> None:
     """The youngest who have no CPUs wait, as many as would bring the pool below what it keeps; who asks for none does not, nor who asks for more than there are."""
     several = (comer("k", 3, "1-3"), comer("s", None, "4"), comer("t", None), comer("fits", 2), comer("more", 1), comer("all", 8), comer("refused", 9))
-    for keeps, expected in ((0, {}), (3, {"more": 2, "all": 0})):
-        lines = {name: f"it would leave {left} CPUs to the pool, and that keeps 3" for name, left in expected.items()}
-        check(f"the pool keeps {keeps}", beginnings.those_who_wait(ledger_of(pool_least=keeps), several), lines)
+    lines = {name: f"it would leave {left} CPUs to the pool, and that keeps 3" for name, left in (("more", 2), ("all", 0))}
+    for keeps in (0, 3):
+        check(f"the pool keeps {keeps}", beginnings.those_who_wait(ledger_of(pool_least=keeps), several), lines if keeps else {})
 
 
 @case
