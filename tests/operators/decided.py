@@ -401,6 +401,7 @@ def floors_of_the_pool() -> None:
 def ids_of_groups() -> None:
     for group, expected in (("system.slice", "system.slice"), ("a/b", "a+b"), ("a" * 64, "a" * 64), (".", ".-"), ("..", "..-")):
         check(f"an id of {group[:9]}", slices.id_of(group)[:len(expected)], expected)
+    check("as long as an id may be", len(slices.id_of("a" * 65)), 64)
     for group in ("a b", "a" * 65, "system.slice/a@b", "ä"):
         check(f"a digest for {group[:9]}", (slices.id_of(group)[-9], len(slices.id_of(group)) <= 64), ("-", True))
     check("below", [slices.is_below(path, above) for path, above in (("/t/a", "/t"), ("/t", "/t"), ("/ta", "/t"), ("/t/a", "/t/a/b"))], [True, False, False, False])
@@ -942,6 +943,10 @@ def seen_sets() -> None:
     check("the same", [same(), same(stamp=("t",)), same(group=other), same(stamp=("t",), group=no_cpus), same(group=no_cpus),
                        same(stamp=("t",), told=dataclasses.replace(seen.told, turn=1)), same(stamp=("t",), group=dataclasses.replace(seen.group, path="/t/b")),
                        same(told=Told("/b", None))], [True, True, False, False, True, False, False, False])
+    bare, later = dataclasses.replace(before, seen=dataclasses.replace(seen, stamp=None)), dataclasses.replace(seen, told=dataclasses.replace(seen.told, turn=1))
+    check("the same, since nothing of it was told before", sightings.is_same(ledger, bare, later), True)
+    nowhere = dataclasses.replace(before, cpus=None)
+    check("the same, since it requested nothing before", sightings.is_same(ledger, nowhere, dataclasses.replace(seen, stamp=("t",), group=no_cpus)), True)
 
 
 @case
@@ -1051,9 +1056,11 @@ def missing() -> None:
     ledger.refused["r"], ledger.blocking["b"], ledger.problems[Topic.LIMIT, "p"] = sighting(), sighting(), Problem(Kind.FAILED, "p", "p")
     _, ledger = looked(ledger)
     check("nobody is told of", (ledger.refused, ledger.blocking, ledger.problems), ({}, {}, {}))
+    ledger = ledger_of(one)
     ledger.problems[Topic.STAYS, "a"] = ledger.problems[Topic.CONTAINER, "a"] = Problem(Kind.ABSENT, "a", "a")
     _, ledger = looked(ledger, told={"a": as_given(one)}, groups={"/t/a": as_given(one).group})
-    check("it is seen", ledger.problems, {})
+    check("it is seen", (ledger.problems, list(ledger.sighted), looked(ledger)[1].sighted), ({}, ["a"], {}))
+    ledger = ledger_of()
     ledger.problems[Topic.STAYS, "a"] = Problem(Kind.STAYS, "a", "a")
     _, ledger = looked(ledger, told={"a": outside})
     check("it is outside by now", (Topic.STAYS, "a") in ledger.problems, False)
