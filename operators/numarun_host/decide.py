@@ -185,8 +185,7 @@ def tell_events(turn: Turn) -> Steps[bool]:
     ledger.shown = there
     for event in events:
         yield from tell_event(ledger, event)
-    if events:
-        yield from say_notes(turn)
+    yield from say_notes(turn)
     return bool(events)
 
 

@@ -251,13 +251,12 @@ def refuse(turn: Turn, name: str, sighting: Sighting, reply: Reply, cpus: Option
 
 
 def requested_by_untold(turn: Turn) -> Cpus:
-    """The CPUs outside the reserved ones that groups request of which numarun is not told: those that come or can't be told of at the moment,
+    """The CPUs outside the reserved ones that groups request by now of which numarun is not told: those that come or can't be told of at the moment,
     and those with a process that an agent told of before."""
     ledger, there = turn.ledger, turn.there
-    come = [seen.group.cpus for name, seen in there.items() if name not in ledger.containers and not is_refused(turn, name, seen)]
-    blocking = [seen.group.cpus for seen in ledger.blocking.values()]
-    unseen = [group.cpus for path in unseen_paths(turn) for group in [turn.look.group(path)] if group]
-    return NO_CPUS.union(*come, *blocking, *unseen) - ledger.reserved
+    come = [seen.group for name, seen in there.items() if name not in ledger.containers and not is_refused(turn, name, seen)]
+    others = [turn.look.group(path) for path in [*(seen.group.path for seen in ledger.blocking.values()), *unseen_paths(turn)]]
+    return NO_CPUS.union(*(group.cpus for group in [*come, *others] if group)) - ledger.reserved
 
 
 def unseen_paths(turn: Turn) -> List[str]:
@@ -283,7 +282,7 @@ def is_held_up(turn: Turn) -> Steps[bool]:
     """Whether somebody runs on CPUs of which numarun does not know, as who can't be told of at the moment, so that a plan might give these to
     others; says who."""
     ledger = turn.ledger
-    ledger.blocking = {**untold(turn), **still_blocking(turn)}
+    ledger.blocking = {**still_blocking(turn), **untold(turn)}
     unseen = unseen_paths(turn)
     for topic, of in [key for key in ledger.problems if key[0] is Topic.UNSEEN and key[1] not in unseen]:
         ledger.settle(topic, of)

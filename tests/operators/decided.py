@@ -9,17 +9,18 @@ import dataclasses
 import json
 import os
 import re
-from typing import Any, Dict, List, Mapping, Optional, Sequence, Tuple
+from typing import Any, Dict, List, Mapping, Optional, Sequence, Tuple, Type
 
 import mutants
 from trial import OPERATORS, case, check, scratch, text_of, written
 from numarun_host import cgroups, configs, homes, log, memory, placing, pool, reports, sightings, slices, telling
-from numarun_host.commands import Answer, Ask, Command, LeaveFigures, Level, RunPool, SaveTaken, Say, Start, Steps, T, Taken, Tell, Write
+from numarun_host.commands import Answer, Ask, Command, LeaveFigures, LeaveState, Level, LookAtPartition, RunPool, SaveTaken, Say, SetLimit, Start, Steps, T, Taken, Tell, Write
 from numarun_host.configs import Demand, Pin
 from numarun_host.cpus import Cpus, print_list, read_list
-from numarun_host.decide import answer_to_hook, decide, figures_of, reserved_of, squeezed_of
+from numarun_host.decide import answer_to_hook, at_the_end, decide, figures_of, reserved_of, squeezed_of
 from numarun_host.ledger import Container, Kind, Ledger, Pause, Problem, Settings, Sighting, State, Topic, is_undone, report, say_unsaid
 from numarun_host.machine import Machine
+from numarun_host.partition import Layout, Loose, Partition
 from numarun_host.script import Refused
 from numarun_host.seen import Double, Folder, Found, Group, Look, Missing, NoGroup, Online, Told
 from numarun_host.telling import Reply, Turn
@@ -57,16 +58,17 @@ def said(commands: Sequence[Command]) -> List[str]:
     return [command.line for command in commands if isinstance(command, Say)]
 
 
-def done(steps: Steps[T], answers: Mapping[str, Sequence[str]] = {}) -> Tuple[List[Command], T]:
-    """What is yielded, and what it ends with; a line for numarun is answered as told here by its first word, or by `ok`."""
+def done(steps: Steps[T], answers: Mapping[str, Sequence[str]] = {}, faults: Mapping[Type[object], str] = {}) -> Tuple[List[Command], T]:
+    """What is yielded, and what it ends with; a line for numarun is answered as told here by itself or by its first word, or by `ok`, and the
+    commands of which a fault is named fail."""
     commands: List[Command] = []
     try:
         command = next(steps)
         while True:
             commands.append(command)
-            line = command.line if isinstance(command, Ask) else command.verb.value if isinstance(command, Tell) else ""
+            line = command.line if isinstance(command, Ask) else f"{command.verb.value} {command.name}" if isinstance(command, Tell) else ""
             known: Dict[str, Sequence[str]] = {**ANSWERS, **answers}
-            command = steps.send(Answer(tuple(known.get(line, known.get(line.split(" ")[0], ["ok"])))))
+            command = steps.send(Answer(tuple(known.get(line, known.get(line.split(" ")[0], ["ok"]))), why=faults.get(type(command))))
     except StopIteration as end:
         found: T = end.value
         return commands, found
@@ -399,6 +401,7 @@ def floors_of_the_pool() -> None:
 def ids_of_groups() -> None:
     for group, expected in (("system.slice", "system.slice"), ("a/b", "a+b"), ("a" * 64, "a" * 64), (".", ".-"), ("..", "..-")):
         check(f"an id of {group[:9]}", slices.id_of(group)[:len(expected)], expected)
+    check("as long as an id may be", len(slices.id_of("a" * 65)), 64)
     for group in ("a b", "a" * 65, "system.slice/a@b", "ä"):
         check(f"a digest for {group[:9]}", (slices.id_of(group)[-9], len(slices.id_of(group)) <= 64), ("-", True))
     check("below", [slices.is_below(path, above) for path, above in (("/t/a", "/t"), ("/t", "/t"), ("/ta", "/t"), ("/t/a", "/t/a/b"))], [True, False, False, False])
@@ -453,31 +456,24 @@ def groups_let_go() -> None:
     turn.there["x"] = sighting("/t/s.slice")
     check("one that is held", said(done(slices.let_go(turn))[0]), [])
     del turn.there["x"]
-    steps = slices.let_go(turn)
-    tried, command = [], next(steps)
-    try:
-        while True:
-            tried.append(command)
-            command = steps.send(Answer(why="busy" if isinstance(command, Write) else None))
-    except StopIteration:
-        pass
+    tried = tried_again(slices.let_go(turn))
     check("one that can't be written", (said(tried), [one.text for one in tried if isinstance(one, Write)]),
           (["refused /t/s.slice: c is below it, and gets no CPUs: busy"], ["", "0-7"]))
     check("said once", said(tried_again(slices.let_go(turn))), [])
     turn.on_the_way = {}
     check("nobody is below: it is silent", said(tried_again(slices.let_go(turn))), [])
+    free = Turn(ledger_of(), Look(0.0, groups=tree(s_slice="0-7", x_slice="0,3"), slices=("s.slice", "x.slice", "gone.slice"), busy=frozenset({"/t/x.slice"})))
+    free.on_the_way = {"/t/x.slice": "c", "/t/gone.slice": "c"}
+    free.ledger.problems[Topic.SLICE, "/t/s.slice"], free.ledger.taken = Problem(Kind.REFUSED, "/t/s.slice", ""), {"/t/s.slice": Taken(1, "", "", True), "/t/v": Taken(1, "", "", True)}
+    commands, _ = done(slices.let_go(free))
+    check("on the way, though nothing was taken of it", said(commands), ["all CPUs for /t/x.slice: c is below it",
+                                                                          "refused /t/x.slice: it can't be on the pool, since c is below it; its own processes run on all CPUs"])
+    check("one that has all", (Topic.SLICE, "/t/s.slice") in free.ledger.problems, False)
 
 
 def tried_again(steps: Steps[T]) -> List[Command]:
-    """The same where no write is taken."""
-    tried, command = [], next(steps, None)
-    try:
-        while command is not None:
-            tried.append(command)
-            command = steps.send(Answer(why="busy" if isinstance(command, Write) else None))
-    except StopIteration:
-        pass
-    return tried
+    """What is yielded where no write is taken."""
+    return done(steps, faults={Write: "busy"})[0]
 
 
 @case
@@ -495,6 +491,9 @@ def given_back() -> None:
     ledger.taken = {}
     commands = tried_again(slices.give_back(turn, "/t/a"))
     check("an empty list is not taken", [(one.file, one.text) for one in commands if isinstance(one, Write)], [("cpuset.cpus", ""), ("cpuset.cpus", "0-15")])
+    ledger.taken = {"/t/a": Taken(1, "1-2", "0", True)}
+    commands = tried_again(slices.give_back(turn, "/t/a"))
+    check("another one", [(one.file, one.text) for one in commands if isinstance(one, Write)], [("cpuset.cpus", "1-2")])
 
 
 @case
@@ -545,6 +544,8 @@ def problems() -> None:
     for kind, expected in ((Kind.WAITS, False), (Kind.KEEPS, False), (Kind.FEWER, False), (Kind.SHORT, True), (Kind.STAYS, True)):
         ledger.problems = {(Topic.CONTAINER, "a"): Problem(kind, "a", "")}
         check(f"told to end with {kind}", (is_undone(ledger, True), is_undone(ledger, False)), (expected, True))
+    ledger.problems = {(Topic.CONTAINER, "a"): Problem(Kind.OUTSIDE, "a", "")}
+    check("what is outside never counts", is_undone(ledger, False), False)
     ledger.problems = {}
     check("none", is_undone(ledger, False), False)
     for part in ("due", "wrong"):
@@ -595,9 +596,155 @@ def reserved_cores() -> None:
         check(f"reserved of {running}, {before}", reserved_of(machine, cpus(running), cpus(before)), cpus(expected))
 
 
-def looked(ledger: Ledger, answers: Mapping[str, Sequence[str]] = {}, **look: object) -> Tuple[List[Command], Ledger]:
+def looked(ledger: Ledger, answers: Mapping[str, Sequence[str]] = {}, faults: Mapping[Type[object], str] = {}, **look: object) -> Tuple[List[Command], Ledger]:
     parts = {"now": 10.0, "online": Online(ledger.running), **look}
-    return done(decide(ledger, Look(**parts)), answers)  # type: ignore[arg-type]
+    return done(decide(ledger, Look(**parts)), answers, faults)  # type: ignore[arg-type]
+
+
+def as_given(held: Container, **parts: Any) -> Found:
+    """A container that is there, and requests what it was given."""
+    group = dataclasses.replace(held.seen.group, cpus=held.cpus or frozenset(), populated=True)
+    return dataclasses.replace(Found(held.seen.told, held.seen.stamp or (), held.seen.config, group), **parts)
+
+
+def lines_asked(commands: Sequence[Command]) -> List[str]:
+    return [command.line for command in commands if isinstance(command, Ask)]
+
+
+@case
+def when_planned() -> None:
+    """A plan is worked out at once where something happens, whatever failed before: a CPU goes, an event asks for it, somebody comes, has gone or
+    asks for other CPUs. Else a plan that is due waits for its pause, and an update that failed for its own."""
+    one = container("p", State.PINNED, 1, cpus=cpus("1"))
+    there, other = as_given(one), Found(Told("/n", "/n"), ("s",), {}, Group("/t/n", 1))
+
+    def asks_for_a_plan(told: Mapping[str, Found] = {"p": there}, **parts: Any) -> Tuple[bool, bool]:
+        ledger = ledger_of(one)
+        ledger.due, ledger.pauses = True, {("plan", ""): Pause(99.0, 1.0)}
+        look = {name: parts.pop(name) for name in ("online", "events") if name in parts}
+        for name, part in parts.items():
+            setattr(ledger, name, part)
+        groups = {found.group.path: found.group for found in told.values()}
+        commands, after = looked(ledger, told=told, groups=groups, **look)
+        return "begin direct" in lines_asked(commands), after.unmade
+
+    plan, none = (True, False), (False, False)
+    check("in the pause", asks_for_a_plan(), none)
+    check("behind it", asks_for_a_plan(pauses={}), plan)
+    check("not due", asks_for_a_plan(pauses={}, due=False), none)
+    check("a CPU goes", asks_for_a_plan(online=Online(cpus("0-6"))), plan)
+    check("an event", asks_for_a_plan(events=("rebalance",)), plan)
+    check("somebody comes", asks_for_a_plan({"p": there, "n": other}), plan)
+    check("one has gone", asks_for_a_plan({}), plan)
+    more, same = dataclasses.replace(there, stamp=("t",), config=asks(2)), as_given(container("q", State.PINNED, 1, cpus=cpus("3")))
+    check("one asks for more", asks_for_a_plan({"p": more}), plan)
+    check("one asks for more, and another one not", asks_for_a_plan({"p": more, "q": same}, containers={"p": one, "q": container("q", State.PINNED, 1, cpus=cpus("3"))}), plan)
+    check("while it ends", asks_for_a_plan(pauses={}, ending=True), none)
+    for until, expected in ((10.0, plan), (10.1, (False, True))):
+        check(f"an update that failed, until {until}", asks_for_a_plan(pauses={("update", ""): Pause(until, 1.0)}, due=False, unmade=True), expected)
+    commands, _ = looked(ledger_of(), events=("rebalance", "offline 3"))
+    check("numarun is told of CPUs alone", lines_asked(commands)[:1] + [line for line in lines_asked(commands) if "rebalance" in line], ["offline 3"])
+
+
+@case
+def begun_anew() -> None:
+    """Where numarun has no pids left another run begins, which knows nobody: all are told again, as what they were, and a plan follows."""
+    p, s = container("p", State.PINNED, 1, cpus=cpus("2")), container("s", State.SHARED, cpus=cpus("0-1,3-7"))
+    ledger, none = ledger_of(p, s), frozenset[int]()
+    ledger.spent = ledger.unmade = True
+    ledger.taken, ledger.switched = {"/t/p": Taken(1, "", "", False)}, {3: "offline", 4: "online"}
+    ledger.refused["r"], ledger.pauses, ledger.pool, ledger.tried = sighting("/t/r"), {("plan", ""): Pause(99.0, 1.0)}, cpus("0-7"), ["pool 0-7"]
+    told = {"p": as_given(p), "s": as_given(s)}
+    commands, after = looked(ledger, told=told, groups={found.group.path: found.group for found in told.values()})
+    check("another run", [(start.reserved, start.offline, start.memory) for start in commands if isinstance(start, Start)], [(cpus("0"), none, cpus("0"))])
+    check("all are told", [(tell.name, print_list(tell.cpus)) for tell in commands if isinstance(tell, Tell)][:1], [("p", "2")])
+    check("the plan is said", [line for line in said(commands) if line.startswith(("pool", "done"))], ["pool 0-7", "done"])
+    check("what is known", (after.before, after.known, after.spent, after.unmade, after.refused, after.switched),
+          ({"p": ("/t/p", True), "s": ("/t/s", False)}, {"/t/p"}, False, False, {}, {}))
+    for is_fixed, expected in ((True, ["offline 3"]), (False, [])):
+        commands, _ = looked(ledger, online=Online(ledger.running, is_fixed=is_fixed))
+        check(f"CPUs that events took away, {is_fixed}", [line for line in lines_asked(commands) if "line" in line], expected)
+        check("a plan, though nobody is there", "begin direct" in lines_asked(commands), True)
+    first = ledger_of()
+    first.started = False
+    commands, after = looked(first, events=("offline 5",))
+    check("an event at the start", (lines_asked(commands)[0], "begin direct" in lines_asked(commands), after.before), ("offline 5", True, {}))
+    first.started = False
+    check("no event", "begin direct" in lines_asked(looked(first)[0]), False)
+    bare = ledger_of(root=None)
+    bare.started = False
+    try:
+        looked(bare, online=Online(cpus("")))
+        check("no CPU, and no tree", "goes on", "refused")
+    except Refused as why:
+        check("no CPU, and no tree", str(why), "m: none of its CPUs is there")
+
+
+@case
+def settled() -> None:
+    """Beside a plan: the system's groups that are held no more are let go, limits are lifted, and loose processes are named."""
+    one, held = container("p", State.PINNED, 1, cpus=cpus("1")), Group("/t/s.slice", 1, cpus("0,3"))
+    limited = as_given(one, group=Group("/t/p", 1, cpus("1"), limit=(QUOTA, QUOTA), populated=True))
+    ledger = ledger_of(one, lift=True)
+    ledger.taken = {"/t/s.slice": Taken(1, "", "", True), "/t/p": Taken(1, "", "", False)}
+    look = {"told": {"p": limited}, "groups": {"/t/s.slice": held, "/t/p": limited.group}, "partition": Partition(None, loose=(Loose(7, "x", cpus("3")),))}
+    for ending, expected in ((False, ([("cpuset.cpus", ""), ("cpuset.mems", "")], [SetLimit("/t/p", 1, None, (QUOTA, QUOTA))], ["loose 7 x: it may run on 3"])), (True, ([], [], []))):
+        ledger.ending = ending
+        commands, _ = looked(ledger, **look)  # type: ignore[arg-type]
+        check(f"what is done, while it ends: {ending}", ([(each.file, each.text) for each in commands if isinstance(each, Write)], [each for each in commands if isinstance(each, SetLimit)],
+                                                         [line for line in said(commands) if line.startswith("loose")]), expected)
+
+
+@case
+def partition_and_plan() -> None:
+    """A partition gets more CPUs before a plan, and gives some up behind it, or where none is due."""
+    for has, system, due, unmade, expected in (("1-5", "0", True, False, ["look 1-7", "plan"]), ("1-7", "0,6-7", True, False, ["plan", "look 1-5"]),
+                                               ("1-7", "0,6-7", False, False, ["look 1-5"]), ("1-7", "0,6-7", False, True, ["plan", "look 1-5"])):
+        ledger = ledger_of(partition=Layout(("/c/pinned",)), system=cpus(system))
+        ledger.due, ledger.unmade = due, unmade
+        seen = Partition("root", (cpus(has),), cpus(has), cpus("0-7") - cpus(has), way=((True, True), (True, True)))
+        commands, _ = looked(ledger, partition=seen)
+        steps = [f"look {print_list(each.cpus)}" if isinstance(each, LookAtPartition) else "plan" for each in commands
+                 if isinstance(each, LookAtPartition) or isinstance(each, Ask) and each.line == "begin direct"]
+        check(f"{has}, without {system}, {due} {unmade}", list(dict.fromkeys(steps)), expected)
+
+
+@case
+def left_for_others() -> None:
+    """What is known is left where something of it is another one, and at the end, if there is a tree; the figures, if they are asked for. What can't
+    be left is said once."""
+    def left(commands: Sequence[Command]) -> List[object]:
+        return [command.state["offline"] for command in commands if isinstance(command, LeaveState)]
+
+    off = Online(cpus("0-6"))
+    check("no news", (left(looked(ledger_of())[0]), left(looked(ledger_of(), online=off)[0]), left(looked(ledger_of(root=None), online=off)[0])), ([], ["7"], []))
+    check("no figures", [command for command in looked(ledger_of())[0] if isinstance(command, LeaveFigures)], [])
+    full = {LeaveState: "/run/status.json: full", LeaveFigures: "/figures: full"}
+    commands, ledger = looked(ledger_of(figures="/figures"), faults=full, online=off)
+    check("a full disk", said(commands)[-2:], ["failed /figures: full", "failed /run/status.json: full"])
+    commands, ledger = looked(ledger, faults=full, online=Online(cpus("0-5")), now=20.0)
+    check("said once", [line for line in said(commands) if line.startswith("failed")], [])
+    commands, ledger = looked(ledger, online=off, now=30.0)
+    check("done", ledger.problems, {})
+    for root, expected in (("/t", [True]), (None, [])):
+        check(f"at the end, {root}", [command.ended for command in at_the_end(ledger_of(root=root)) if isinstance(command, LeaveState)], expected)
+
+
+@case
+def kept_at_a_look() -> None:
+    """What was kept of one before is kept as long as it is told of, or has a process. The list of an update is kept. Titles are the look's."""
+    ledger = ledger_of()
+    ledger.before, ledger.taken = {name: (f"/t/{name}", None) for name in ("told", "there", "gone")}, {"/t/there": Taken(1, "", "", False)}
+    _, after = looked(ledger, told={"told": Missing(Told("/b", "/f"), "not JSON")}, groups={"/t/there": Group("/t/there", 1, cpus("2"), populated=True)})
+    check("of one before", sorted(after.before), ["there", "told"])
+    one = container("a", State.PINNED, 1, cpus=cpus("1"))
+    ledger = ledger_of(one)
+    ledger.taken = {"/t/a": Taken(1, "5", "", False)}
+    found = as_given(one, told=Told("/b", "/f", listed="1"))
+    commands, after = looked(ledger, told={"a": found}, groups={"/t/a": found.group})
+    check("an update's list", [command.groups["/t/a"] for command in commands if isinstance(command, SaveTaken)][-1:], [Taken(1, "1", "", False, None, True)])
+    commands, _ = looked(after, titles={"a": "web(a)"})
+    check("titles", [line for line in said(commands) if line.startswith("ended")], ["ended web(a)"])
 
 
 @case
@@ -612,6 +759,25 @@ def silent_folders() -> None:
         lines.append(said(commands))
     check("what is said", lines, [["note /f: no such folder yet"], [], [], ["note /f: none of its 2 entries is a container, as x"], [], [], [],
                                   ["note /f: no such folder yet"]])
+    for folder in (Folder("/f", True, 2, 1), Folder("/f", True)):
+        ledger = ledger_of()
+        for _ in range(3):
+            commands, ledger = looked(ledger, folders=(folder,))
+            check(f"one with {folder.entries} entries, of which {folder.containers} are containers", said(commands), [])
+
+
+@case
+def silent_runtimes() -> None:
+    """The folders of runtimes that are not there are named together, at the first look at folders."""
+    rows: Sequence[Tuple[Sequence[Tuple[bool, ...]], Sequence[Sequence[str]]]] = (
+        ([(), (False, False), (False, False), (True, False)], [[], ["note no such folders yet: /q, /r"], [], []]),
+        ([(True, False), (False, False)], [["note no such folders yet: /r"], []]), ([(True, True)], [[]]))
+    for looks, expected in rows:
+        ledger, lines = ledger_of(), []
+        for there in looks:
+            commands, ledger = looked(ledger, folders=tuple(Folder(path, is_there, by_runtime=True) for path, is_there in zip(("/q", "/r"), there)))
+            lines.append(said(commands))
+        check(f"those that are there: {looks}", lines, expected)
 
 
 @case
@@ -630,8 +796,14 @@ def notes() -> None:
     commands, ledger = looked(ledger, online=Online(cpus("0,2-6"), cpus("9")))
     check("another thing", [line for line in said(commands) if line.startswith(("note", "online"))], [
         "online 6", "note CPUs 9 are left alone: the machine file has none of them"])
+    check("what is told of that", ledger.running, cpus("0,2-6"))
     commands, ledger = looked(ledger, {"offline 5": ["refused E52 NoSuchCpu 5"]}, online=Online(cpus("0,2-4,6"), cpus("9")))
     check("refused", ([line for line in said(commands) if "5" in line], ledger.wrong, 5 in ledger.running), (["refused E52 NoSuchCpu 5: offline 5"], True, True))
+    commands, ledger = looked(ledger_of(), online=Online(ledger.running, cpus("8")))
+    check("without an event", [line for line in said(commands) if line.startswith("note")], ["note CPUs 8 are left alone: the machine file has none of them"])
+    whole = ledger_of()
+    whole.started = False
+    check("nothing is otherwise", [line for line in said(looked(whole)[0]) if line.startswith("note")], [])
 
 
 @case
@@ -657,6 +829,8 @@ def told_wrong() -> None:
     commands, ledger = looked(ledger, wrong=("line 1: x",), fault="/f: no", doubles=(Double("a", "/f/a", "/g/a"),), pool_command="sh 1", pool_fault="status 1")
     check("said", said(commands), ["refused: line 1: x", "failed /f: no; looks again", "refused: its id is told by /g/a too: a /f/a", "failed sh 1: status 1"])
     check("left undone", (ledger.wrong, len(ledger.problems)), (True, 3))
+    commands, ledger = looked(ledger, fault="/f: no", doubles=(Double("a", "/f/a", "/g/a"),))
+    check("as long as it is the same", (said(commands), len(ledger.problems)), ([], 3))
     commands, ledger = looked(ledger, pool_command="sh 1")
     check("all done", (said(commands), ledger.problems), ([], {}))
     commands, _ = looked(ledger, fault="/f: no")
@@ -671,6 +845,11 @@ def figures() -> None:
                        (Topic.SQUEEZED, "s"): Problem(Kind.SQUEEZED, "s", ""), (Topic.DRIFT, "gone"): Problem(Kind.DRIFT, "gone", ""),
                        (Topic.STAYS, "p"): Problem(Kind.STAYS, "p", "")}
     check("squeezed", squeezed_of(ledger), {"p", "q"})
+    ledger.loose = frozenset({(1, "x"), (2, "y")})
+    check("the partition", [figures_of(ledger)[name] for name in ("partition_valid", "loose_processes")], [1, 2])
+    broken = ledger_of(container("p", State.PINNED, 1))
+    broken.problems = {(Topic.PARTITION, ""): Problem(Kind.PARTITION, "", ""), (Topic.LIMIT, "p"): Problem(Kind.FAILED, "p", "")}
+    check("none", (figures_of(broken)["partition_valid"], squeezed_of(broken)), (0, set()))
     found = figures_of(ledger)
     check("figures", [found[f"containers_{name}"] for name in ("pinned", "waiting", "shared", "squeezed")] + [found["undone"]], [2, 1, 2, 2, 5])
     ledger.looked = 7.5
@@ -724,11 +903,12 @@ def hooks() -> None:
     """A hook is answered once it is decided: pinned, shared, no place, refused."""
     waits = Problem(Kind.WAITS, "w", "w: no place")
     ledger = ledger_of(container("p", State.PINNED, 1, cpus=cpus("1")), container("s", State.SHARED, cpus=cpus("0,2-7")), container("w", State.WAITING, cpus=cpus("0")),
-                       container("q", State.ASKING, 1, cpus=cpus("0")), container("k", State.KEPT, 1, cpus=cpus("2")), container("n", State.PINNED, 1))
+                       container("q", State.ASKING, 1, cpus=cpus("0")), container("k", State.KEPT, 1, cpus=cpus("2")), container("n", State.PINNED, 1),
+                       container("v", State.WAITING, cpus=cpus("0")))
     ledger.problems = {(Topic.CONTAINER, "w"): waits, (Topic.CONTAINER, "r"): Problem(Kind.REFUSED, "r", ": r"), (Topic.CONTAINER, "f"): Problem(Kind.FAILED, "f", "f"),
                        (Topic.CONTAINER, "a"): Problem(Kind.ABSENT, "a", "a"), (Topic.CONTAINER, "k"): Problem(Kind.REFUSED, "k", "k")}
     expected = {"p": ("pinned", "pinned p 1"), "s": ("shared", "shared s 0,2-7"), "w": ("no place", "no place waits w: no place"), "q": None, "r": ("refused", "refused: r"),
-                "f": ("failed", "failed f"), "a": None, "k": ("refused", "refused k"), "n": None, "nobody": None}
+                "f": ("failed", "failed f"), "a": None, "k": ("refused", "refused k"), "n": None, "nobody": None, "v": None}
     for name, answer in expected.items():
         check(f"of {name}", answer_to_hook(ledger, name), answer and {"answer": answer[0], "text": answer[1]})
     ledger.unsaid.add((Topic.CONTAINER, "w"))
@@ -761,8 +941,12 @@ def seen_sets() -> None:
 
     other, no_cpus = dataclasses.replace(seen.group, inode=2), dataclasses.replace(seen.group, cpus=cpus(""))
     check("the same", [same(), same(stamp=("t",)), same(group=other), same(stamp=("t",), group=no_cpus), same(group=no_cpus),
-                       same(stamp=("t",), told=dataclasses.replace(seen.told, turn=1)), same(stamp=("t",), group=dataclasses.replace(seen.group, path="/t/b"))],
-          [True, True, False, False, True, False, False])
+                       same(stamp=("t",), told=dataclasses.replace(seen.told, turn=1)), same(stamp=("t",), group=dataclasses.replace(seen.group, path="/t/b")),
+                       same(told=Told("/b", None))], [True, True, False, False, True, False, False, False])
+    bare, later = dataclasses.replace(before, seen=dataclasses.replace(seen, stamp=None)), dataclasses.replace(seen, told=dataclasses.replace(seen.told, turn=1))
+    check("the same, since nothing of it was told before", sightings.is_same(ledger, bare, later), True)
+    nowhere = dataclasses.replace(before, cpus=None)
+    check("the same, since it requested nothing before", sightings.is_same(ledger, nowhere, dataclasses.replace(seen, stamp=("t",), group=no_cpus)), True)
 
 
 @case
@@ -772,6 +956,8 @@ def seen_again() -> None:
     found = Found(Told("/b", "/f"), ("s",), asks(1), Group("/t/a", 1, nodes=cpus("0")))
     first = sightings.sighting_of(ledger, "a", found)
     check("the same", sightings.sighting_of(ledger, "a", found) is first, True)
+    seen = ledger.change("a", seen=first).seen
+    check("as the container was seen", sightings.sighting_of(ledger, "a", dataclasses.replace(found)) is seen, True)
     ledger.change("a", followed=cpus("3"))
     check("another container", sightings.sighting_of(ledger, "a", found).nodes, cpus("3"))
     ledger.taken["/t/a"] = Taken(1, "5", "", False, None, True)
@@ -812,8 +998,72 @@ def as_before() -> None:
         known = configs.at(found.config, "linux", "resources", "cpu", "cpus") if found else None
         what = (configs.asked(found.config, Pin.ANNOTATED, ledger.settings.machine), known or "-") if found else None
         check(f"{pinned} on {has!r}, {kept}, {populated}, {system}", what, expected)
+    ledger.before, ledger.taken, ledger.reserved = {"a": ("/t/a", None)}, {"/t/a": Taken(1, "", "", False)}, cpus("7")
+    for has, own in (("0,3", False), ("3,7", False), ("3-4", True)):
+        found = sightings.as_before(Turn(ledger, Look(0.0, groups={"/t/a": Group("/t/a", 1, cpus(has), populated=True)})), "a", Told("/b", "/f"))
+        check(f"on {has}, where others are reserved by now", bool(found and configs.at(found.config, "linux", "resources", "cpu", "cpus")), own)
+    ledger.reserved, one = cpus("0"), Found(Told("/b", "/f"), ("s",), {}, Group("/t/a", 1, cpus("0-7"), populated=True))
+    commands, _ = looked(ledger, told={"new": one}, groups={"/t/a": one.group})
+    check("another id has its group now", said(commands)[:1], ["adopt new /b 0-7"])
     turn = Turn(ledger_of(), Look(0.0))
     check("nobody held it", sightings.as_before(turn, "a", Told("/b", "/f")), None)
+    ledger = ledger_of()
+    ledger.before, ledger.taken = {"a": ("/t/a", True)}, {"/t/a": Taken(1, "", "", False)}
+    commands, _ = looked(ledger, told={"a": Missing(Told("/b", "/f"), "not JSON")}, groups={"/t/a": Group("/t/a", 1, cpus("2"), populated=True)})
+    check("in a look", said(commands)[:2], ["stays a: not JSON; there is a process in its group", "adopt a /t/a 2"])
+    check("nodes of a group", [sightings.nodes_of(ledger, Group("/t/a", 1, nodes=None if text is None else cpus(text))) for text in (None, "", "0", "1")], [cpus("")] * 2 + [cpus("0"), cpus("")])
+    held, other = container("a", State.PINNED, 1), Group("/t/a", 1, cpus("5"))
+    there, gone = Turn(ledger, Look(0.0, groups={"/t/a": other})), Turn(ledger, Look(0.0))
+    check("as it was", [sightings.as_it_was(turn, held).group for turn in (there, gone)], [other, held.seen.group])
+
+
+@case
+def told_no_more() -> None:
+    """Who is told of no more and has a process stays, which is said once, until it is told of again or has ended; a group of the system's does not."""
+    one, runs = container("a", State.PINNED, 1, cpus=cpus("1")), Group("/t/a", 1, cpus("1"), populated=True)
+    line, lines, ledger = "stays a: it is told of no more; there is a process in its group", [], ledger_of(one)
+    for told in ({}, {}, {"a": as_given(one)}, {}):
+        commands, ledger = looked(ledger, told=told, groups={"/t/a": runs})
+        lines.append(said(commands))
+        check(f"it is there, {bool(told)}", ("a" in ledger.containers, bool(ledger.problems)), (True, not told))
+    check("said", lines, [[line], [], [], [line]])
+    check("without a process", said(looked(ledger_of(one), groups={"/t/a": dataclasses.replace(runs, populated=False)})[0])[:1], ["ended a"])
+    system = dataclasses.replace(one, seen=dataclasses.replace(one.seen, told=Told("", None, "a")))
+    check("one of the system", said(looked(ledger_of(system), groups={"/t/a": runs})[0])[:1], ["ended a"])
+
+
+@case
+def missing() -> None:
+    """Who can't be seen is named: at once if it is in a group outside of the partition, or stays since it has a process; else at the second look. Nothing is
+    kept of it once it is gone."""
+    one, told = container("a", State.PINNED, 1, cpus=cpus("1")), Told("/b", "/f")
+    outside, parts, none = Missing(told, "its group is not below /c", outside=True), Missing(told, "not JSON", in_parts=True), Missing(told, "no file")
+    stays, absent = "stays a: not JSON; there is a process in its group", "absent a: not JSON"
+    rows: Sequence[Tuple[str, Ledger, Missing, bool, Sequence[Sequence[str]]]] = (
+        ("outside", ledger_of(), outside, True, [["outside a: its group is not below /c"], []]), ("it runs", ledger_of(one), parts, True, [[stays], []]),
+        ("it does not", ledger_of(one), parts, False, [["ended a"], [], [absent]]), ("a new one", ledger_of(), none, True, [[], ["absent a: no file"]]),
+        ("a new one, without a tree", ledger_of(root=None), parts, False, [[], [absent]]), ("without a tree", ledger_of(one, root=None), parts, False, [[], []]))
+    for name, ledger, found, runs, expected in rows:
+        lines, groups = [], {"/t/a": Group("/t/a", 1, cpus("1"), populated=runs)} if ledger.has_tree else {}
+        for _ in expected:
+            commands, ledger = looked(ledger, told={"a": found}, groups=groups)
+            lines.append([line for line in said(commands) if line.startswith(("outside", "stays", "absent", "ended"))])
+        check(name, lines, expected)
+        ledger.pauses["container", "a"] = ledger.pauses["limit", "b"] = Pause(99.0, 1.0)
+        _, ledger = looked(ledger)
+        check(f"{name}: gone", ([key for key in ledger.problems if key[1] == "a"], [of for what, of in ledger.pauses if what != "plan"], ledger.sighted), ([], [], {}))
+    ledger = ledger_of()
+    ledger.refused["r"], ledger.blocking["b"], ledger.problems[Topic.LIMIT, "p"] = sighting(), sighting(), Problem(Kind.FAILED, "p", "p")
+    _, ledger = looked(ledger)
+    check("nobody is told of", (ledger.refused, ledger.blocking, ledger.problems), ({}, {}, {}))
+    ledger = ledger_of(one)
+    ledger.problems[Topic.STAYS, "a"] = ledger.problems[Topic.CONTAINER, "a"] = Problem(Kind.ABSENT, "a", "a")
+    _, ledger = looked(ledger, told={"a": as_given(one)}, groups={"/t/a": as_given(one).group})
+    check("it is seen", (ledger.problems, list(ledger.sighted), looked(ledger)[1].sighted), ({}, ["a"], {}))
+    ledger = ledger_of()
+    ledger.problems[Topic.STAYS, "a"] = Problem(Kind.STAYS, "a", "a")
+    _, ledger = looked(ledger, told={"a": outside})
+    check("it is outside by now", (Topic.STAYS, "a") in ledger.problems, False)
 
 
 @case

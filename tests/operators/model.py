@@ -424,7 +424,7 @@ class Agent:
         self.offline: Cpus = frozenset()  # as the program was begun
         self.lines: List[str] = []  # that were said in the last look
         self.said: List[str] = []   # those of them that are warnings
-        self.set_back: Dict[str, Cpus] = {}  # in the last look, by who was told of on the reserved CPUs, what the others requested then
+        self.set_back: Dict[str, Dict[str, Cpus]] = {}  # in the last look, by who was told of on the reserved CPUs, what each other group requested then
         self.denied: Set[str] = set()        # in the last look, who was refused
         self.is_short = self.is_disturbed = self.has_plan = False  # in the last look
 
@@ -448,8 +448,14 @@ class Agent:
         """Behind the first plan of a run: who came, and has CPUs by it that nobody requested then, was never on the reserved CPUs alone."""
         for name, others in self.set_back.items():
             row = self.program.rows.get(name) if self.program else None
-            if row and row.cpus != RESERVED and not row.cpus & others - RESERVED:
+            if row and row.cpus != RESERVED and not row.cpus & self.kept_off(row, others) - RESERVED:
                 self.world.wrong.append(f"{name} was on the reserved CPUs, though nobody had {shown(row.cpus)}")
+
+    def kept_off(self, row: Row, others: Dict[str, Cpus]) -> Cpus:
+        """What others requested that keeps a container off: of one that asks for no CPUs of its own, only what is requested by who asks for some, or
+        was not told of."""
+        places = self.world.places
+        return NO_CPUS.union(*(cpus for path, cpus in others.items() if row.count is not None or path not in places or not places[path].shared))
 
     def note_set_back(self, command: Tell, answer: str) -> None:
         """Notes who is told of on the reserved CPUs, but for those that request CPUs which are others', or whose config is refused as it is. If
@@ -460,13 +466,7 @@ class Agent:
             place = self.world.places.get(self.world.path(name))
             self.is_disturbed = self.is_disturbed or answer.startswith("refused E104") or bool(place and place.cpus - RESERVED)
         elif command.verb is Verb.CREATE and name not in self.denied:
-            self.set_back[name] = self.requested_beside(name)
-
-    def requested_beside(self, name: str) -> Cpus:
-        """What others request that keeps a container off: of one that asks for no CPUs of its own, only what is another one's own."""
-        path, row = self.world.path(name), self.program.rows[name] if self.program else None
-        others = [place for other, place in self.world.places.items() if other != path]
-        return frozenset[int]().union(*(place.cpus for place in others if row and (row.count is not None or not place.shared)))
+            self.set_back[name] = {path: place.cpus for path, place in self.world.places.items() if path != self.world.path(name)}
 
     def trouble(self) -> None:
         draw = self.world.choices.below(64)

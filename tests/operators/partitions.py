@@ -9,7 +9,7 @@ import dataclasses
 import os
 import random
 from types import SimpleNamespace
-from typing import Callable, Dict, Iterator, List, Mapping, Optional, Tuple
+from typing import Callable, Dict, Iterator, List, Mapping, Optional, Sequence, Tuple
 from unittest import mock
 
 from partition_kernel import NOT_EXCLUSIVE, NO_SUCH, TOP, UNABLE, Eyes, Kernel, Killed, World, cpus
@@ -19,7 +19,7 @@ from numarun_host.commands import Answer, LookAtPartition, MakeGroup, Say, Steps
 from numarun_host.cpus import NO_CPUS, Cpus, print_list
 from numarun_host.ledger import Ledger, Settings
 from numarun_host.machine import Machine
-from numarun_host.partition import CPUS_FILE, FILE, MEMBER, ROOT, Layout, Loose, Partition, Step, Stop
+from numarun_host.partition import CPUS_FILE, FILE, MEMBER, ROOT, Beside, Layout, Loose, Partition, Step, Stop
 from numarun_host.partition_files import Before, give_back, layout_of, make
 from numarun_host.partitioning import keep_partition, wanted_by
 from numarun_host.script import Refused
@@ -329,6 +329,27 @@ def wrong_bodies() -> None:
 
 
 # By hand.
+
+
+@case
+def as_seen() -> None:
+    """What a group beside asks of some CPUs: of those of one beside a group above its exclusive ones, or all that it requests if they are no part of it, but the
+    whole. What the tree's root would have without the partition, whether it is valid, and what is said of one that is not."""
+    for near, asked, expected in ((True, "2,5,7", "2,5"), (True, "6", ""), (False, "1-6", "1-3,5"), (False, "2-6", "5"), (False, "1-3", "1-3"), (False, "1-2", "")):
+        check(f"{near} {asked}", Beside("/g", cpus("1-3"), cpus("5"), near).asks(cpus(asked)), cpus(expected))
+    for text, above, online in ((ROOT, "0", "0-2"), ("isolated", "0", "0-2"), (MEMBER, "0-2", "0-2"), (MEMBER, "0", "0"), (ROOT, None, None), (None, "0-2", "0-2")):
+        seen = Partition(text, (cpus("1-2"),), cpus("1-2"), None if above is None else cpus(above))
+        check(f"online with {text}, {above}", seen.online, None if online is None else cpus(online))
+    check("nothing is seen", (Partition(None).cpus, Partition(None, (None,)).cpus, Partition(None, (cpus("1"),)).cpus), (NO_CPUS, NO_CPUS, cpus("1")))
+    beside = (Beside("/g", cpus("2")),)
+    for text, has, others, valid in ((ROOT, 1, (), True), (ROOT, 1, beside, False), (ROOT, 3, beside, True), (MEMBER, 3, (), False), (UNABLE, 1, (), False), (None, 1, (), False)):
+        check(f"valid: {text} {has} {len(others)}", Partition(text, (cpus("1-2"),) * has, beside=others).is_valid, valid)
+    for text, reason, line in ((None, "", "no such file"), ("", "", "nothing"), (UNABLE, "x requests 1", f"{UNABLE}; x requests 1"), (MEMBER, "", MEMBER)):
+        check(f"fault: {text} {reason}", Partition(text).fault(reason), line)
+    steps: Sequence[Tuple[Optional[Step], str]] = (
+        (Write("/c", FILE, ROOT), "/c/cpuset.cpus.partition: 'root' was written, and it is not so"), (MakeGroup("/c"), "/c: it was made, and is not there"), (None, ""))
+    for step, said_of in steps:
+        check(f"in vain: {step}", partition.in_vain(step), said_of)
 
 
 @case
