@@ -604,13 +604,19 @@ def mended() -> None:
     waits = f"drift a has 0 in place of 1-2: {waits}"
     check("another group is there", (steps[:1], lines), (["adopt new 2,5"], [waits]))
     check("on its way to be told", looks(("a", "0"), more=[found("new", config_of(), "6")])[0][:1], ["adopt a 1-2"])
-    for has, expected in (("2", [waits]), ("5", [f"drift a has 0 in place of 1-2: {again}"])):
+
+
+@case
+def mended_by_now() -> None:
+    """Who could not be told of keeps others off the CPUs that its group has by now, and not off those that it had when it was refused."""
+    waits = "another group requests some of these, and can't be told of yet"
+    for has, expected in (("2", waits), ("5", "that is written again")):
         ledger = ledger_of(one("a", State.PINNED, cpus=cpus("1-2"), **asking(2)))
         ledger.blocking["x"] = dataclasses.replace(sighting("/t/x"), group=Group("/t/x", 7, cpus("2,5") - cpus(has)))
         now = {"a": found("a", asks(2), "0"), "x": found("x", config_of(), has)}
         now["a"] = dataclasses.replace(now["a"], told=Told("/b", "/f"), stamp=("s",), group=dataclasses.replace(now["a"].group, inode=1))
         commands, _ = looked(ledger, told={"a": now["a"], "x": Missing(now["x"].told, "not JSON")}, groups=groups_of(*now.values()))
-        check(f"a group that could not be told of, and has {has} by now", [line for line in said(commands) if line.startswith("drift")], expected)
+        check(f"it has {has} by now", [line for line in said(commands) if line.startswith("drift")], [f"drift a has 0 in place of 1-2: {expected}"])
 
 
 @case
