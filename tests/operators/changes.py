@@ -335,11 +335,23 @@ def no_work() -> None:
     check("one line, and no plan", (status, len(of(lines, "failed")), of(rest, "plan", "done", "failed", "create")), (1, 1, []))
     agent = Open(site, "--textfile", site.at("figures"))
     agent.until("failed")
+    end = time.monotonic() + 30
     time.sleep(4)
+    while int(figure(site, "numarun_refused_writes_total")) < 2 and time.monotonic() < end:
+        time.sleep(0.1)
     agent.end()
-    figures = dict(line.split(" ") for line in open(site.at("figures")).read().splitlines() if not line.startswith("#"))
-    tries = int(figures["numarun_refused_writes_total"])
-    check("tries in four seconds, and plans", (2 <= tries <= 8, figures["numarun_plans_total"]), (True, "1"))
+    tries = int(figure(site, "numarun_refused_writes_total"))
+    check("tries in some seconds, and plans", (2 <= tries <= 8, figure(site, "numarun_plans_total")), (True, "1"))
+
+
+def figure(site: Site, name: str) -> str:
+    """What the agent's file of figures has of it by now; 0 where that is not written yet."""
+    try:
+        with open(site.at("figures")) as file:
+            lines = dict(line.split(" ") for line in file.read().splitlines() if not line.startswith("#"))
+    except FileNotFoundError:
+        return "0"
+    return lines.get(name, "0")
 
 
 @case
