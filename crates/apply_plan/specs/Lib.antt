@@ -40,6 +40,8 @@ pub mod OverviewLemmas
 pub mod NextTables
 pub mod Turns
 pub mod NextLemmas
+pub mod FirstHolders
+pub mod FirstHolderLemmas
 pub mod TurnLemmas
 pub mod DirectRuns
 pub mod DirectRunLemmas

@@ -62,7 +62,7 @@ module _ (k : KernelState) (reserved : Ids) (entries : List Entry) (e : Entry) w
     by false false s a r = absurd (false≢true r)
 
   -- who holds what e does not is another one
-  is_other : (d : Entry) (q : ℕ) → set.contains (held k e) q ≡ false → set.contains (held k d) q ≡ true → same_group e.group d.group ≡ false
+  pub is_other : (d : Entry) (q : ℕ) → set.contains (held k e) q ≡ false → set.contains (held k d) q ≡ true → same_group e.group d.group ≡ false
   is_other d q out m = by_test (same_group e.group d.group)
       (λ same. absurd (false≢true (sym out ∙ ap (λ g. set.contains (requested_cpus k.tree g) q) (same_group-equal e.group d.group same) ∙ m)))
       (λ other. other)

@@ -141,7 +141,7 @@ module _ (d : Directed) (valid : IsHandover d.targets) (least : Least) (gives : 
         one a (inr p) is = absurd (false≢true (sym is.has ∙ ap (has_own d.targets.reserved) p ∙ is.had))
 
   -- which was stuck
-  by_write : (w : Write) → Direct d least old (Some w) → SqueezesOnlyStuck d least old (written old (Some w))
+  pub by_write : (w : Write) → Direct d least old (Some w) → SqueezesOnlyStuck d least old (written old (Some w))
   by_write w (cases.Takes test e found takes) = of_it test e e.target found
       (λ a is has squeezed. absurd (false≢true (sym squeezed.way ∙ (is_same_decides _ _).1 (has ∙ ap (λ (x : Entry). x.target) (sym is)))))
   by_write w (cases.Shares e none found) = of_it (shares old d.targets.reserved d.targets.entries) e (shared_way old d.targets.reserved d.targets.entries e) found

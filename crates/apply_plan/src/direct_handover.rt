@@ -1,10 +1,10 @@
-ghost use Rattle.std.specs.Prelude.{◌≡◌, ◌+◌, ◌*◌, ◌≤◌, length, Ok, IfOk};
+ghost use Rattle.std.specs.Prelude.{◌≡◌, ◌+◌, ◌*◌, ◌≤◌, length, Ok, IfOk, find, is_none};
 ghost use Rattle.kernel_model.specs.KernelState.{KernelState};
 ghost use Rattle.kernel_model.specs.Cases.{rise};
 ghost use Rattle.apply_plan.specs.Holders.{IsSafe};
 ghost use Rattle.apply_plan.specs.Targets.{holders_of, ArePlaced};
 ghost use Rattle.apply_plan.specs.Leaves.{KeepsRest};
-ghost use Rattle.apply_plan.specs.DueWrite.{HaveTargets};
+ghost use Rattle.apply_plan.specs.DueWrite.{must_move, HaveTargets};
 ghost use Rattle.apply_plan.specs.MayWrite.{left_directly};
 ghost use Rattle.apply_plan.specs.Directed.{Directed, IsDirected, Serves};
 ghost use Rattle.apply_plan.specs.OnWay.{AreOnWay};
@@ -27,8 +27,8 @@ use std::marker::Model;
 /// on spare CPUs that it is allowed, its places. Only where nobody in a ring can do so is one put on the reserved CPUs
 /// for a while, as a temporary.
 ///
-/// Of n entries a step looks at O(n) where a target is free. Where none is, it looks up for each entry whom it waits
-/// for, in O(n) each.
+/// Of n entries a step looks at O(n). Where no target is free it notes who holds each CPU first, and looks up at the
+/// CPUs that each lacks whom it waits for; it follows each from one to the next, in n steps at most.
 #[derive(Debug, Drop)]
 pub struct DirectHandover {
     entries: Vec<Entry>,
@@ -129,6 +129,21 @@ impl DirectHandover {
         ensures valid { IsDirected self.now }
     {
         self.entries.as_slice()
+    }
+
+    /// The CPUs that stay with the system.
+    pub fn reserved(&self) -> &IdSet
+        ensures { result.now ≡ self.now.targets.reserved }
+    {
+        &self.reserved
+    }
+
+    /// Whether each live container holds its target.
+    pub fn has_arrived<K: Kernel>(&self, kernel: &K) -> bool
+        requires { ArePlaced (K.state kernel.now) self.now.targets.entries }
+        ensures { result ≡ is_none (find (must_move (K.state kernel.now)) self.now.targets.entries) }
+    {
+        all_arrived(kernel, self.entries.as_slice(), 0)
     }
 
     /// Makes the write that is due, or none.

@@ -1,77 +1,162 @@
 //! Who waits for whom in a direct hand-over, and who of them stands in a ring.
-ghost use Rattle.std.specs.Prelude.{◌≡◌, ◌<◌, true, length, find, slice_get};
+ghost use Rattle.std.specs.Prelude.{◌≡◌, ℕ, ◌+◌, ◌<◌, ◌&&◌, ◌||◌, true, false, cond, length, get_or, slice_get};
+ghost use Rattle.std.specs.FinSet as set;
+ghost use Rattle.cpu_set.specs.declared.TheConstants.{CPU_LIMIT};
 ghost use Rattle.cpuset_tree.specs.Groups.{has_group};
+ghost use Rattle.proctable.specs.Processes.{is_alive};
 ghost use Rattle.apply_plan.specs.Targets.{ArePlaced};
-ghost use Rattle.apply_plan.specs.DirectWords.{is_rival, holds_some};
+ghost use Rattle.apply_plan.specs.FirstHolders.{AreFirsts, IsLeastPlace};
 ghost use Rattle.apply_plan.specs.Rings.{next};
 ghost use Rattle.apply_plan.specs.NextTables.{AreNexts, ring_at, any_ring};
 
 use crate::Entry;
-use cpu_set::IdSet;
+use cpu_set::{CPU_LIMIT, IdSet};
 use kernel_model::{Kernel, requested};
 
-/// Whether another container is a live one with which this one may not share.
-fn is_rival<K: Kernel>(kernel: &K, entry: &Entry, other: &Entry) -> bool
-    ensures { result ≡ is_rival (K.state kernel.now) entry.now other.now }
+const CPUS: usize = CPU_LIMIT as usize;
+
+/// Writes a number at each of the CPUs.
+fn mark(places: &mut [usize; CPUS], cpus: &IdSet, number: usize)
+    requires room { length places.old ≡ CPU_LIMIT }
+    ensures room { length places.new ≡ CPU_LIMIT }
+    ensures each { (q : ℕ) → get_or places.new q 0 ≡ cond (set.contains cpus.now q) number (get_or places.old q 0) }
 {
-    (entry.pinned || other.pinned) && entry.group != other.group && kernel.first_alive(other.pid)
+    let mut next = cpus.first();
+    while let Some(cpu) = next {
+        places[cpu as usize] = number;
+        next = cpus.next_after(cpu);
+    }
 }
 
-/// Whether another container is a rival that holds some of these CPUs, outside the reserved ones.
-fn holds_some<K: Kernel>(
-    kernel: &K,
-    reserved: &IdSet,
-    entry: &Entry,
-    cpus: &IdSet,
-    other: &Entry,
-) -> bool
-    requires { has_group (K.state kernel.now).tree other.now.group ≡ true }
-    ensures { result ≡ holds_some (K.state kernel.now) reserved.now entry.now cpus.now other.now }
+/// The least number at one of the CPUs, and the end where none is below it.
+fn least_place(places: &[usize; CPUS], cpus: &IdSet, end: usize) -> usize
+    requires { length places.now ≡ CPU_LIMIT }
+    ensures { IsLeastPlace cpus.now places.now end result }
 {
-    is_rival(kernel, entry, other)
-        && !cpus
-            .meet(requested(kernel, other.group))
-            .is_subset(reserved)
+    let mut least = end;
+    let mut next = cpus.first();
+    while let Some(cpu) = next {
+        least = least.min(places[cpu as usize]);
+        next = cpus.next_after(cpu);
+    }
+    least
 }
 
-/// The place of the first rival that holds some of these CPUs, and past the end where none does.
-fn first_holder<K: Kernel>(
+/// Whether a container is a live one, and counts: where not anyone does, pinned ones do.
+fn counts<K: Kernel>(kernel: &K, any: bool, entry: &Entry) -> bool
+    ensures { result ≡ ((any || entry.now.pinned) && is_alive (K.state kernel.now).table entry.now.pid) }
+{
+    (any || entry.pinned) && kernel.first_alive(entry.pid)
+}
+
+/// Notes the place of one more container at the CPUs that nobody before it holds.
+fn note_holder<K: Kernel>(
     kernel: &K,
     reserved: &IdSet,
     entries: &[Entry],
-    entry: &Entry,
-    cpus: &IdSet,
-) -> usize
-    requires { ArePlaced (K.state kernel.now) entries.now }
-    ensures { find (holds_some (K.state kernel.now) reserved.now entry.now cpus.now) entries.now
-        ≡ slice_get entries.now result }
+    any: bool,
+    place: usize,
+    seen: &mut IdSet,
+    places: &mut [usize; CPUS],
+)
+    requires placed { ArePlaced (K.state kernel.now) entries.now }
+    requires within { place < length entries.now }
+    requires room { length places.old ≡ CPU_LIMIT }
+    requires before { AreFirsts (K.state kernel.now) reserved.now entries.now any place seen.old places.old }
+    ensures room { length places.new ≡ CPU_LIMIT }
+    ensures firsts { AreFirsts (K.state kernel.now) reserved.now entries.now any (place + 1) seen.new places.new }
 {
-    for (place, other) in entries.iter().enumerate() {
-        if holds_some(kernel, reserved, entry, cpus, other) {
-            return place;
-        }
+    let entry = &entries[place];
+    if !counts(kernel, any, entry) {
+        return;
     }
-    entries.len()
+    let news = requested(kernel, entry.group).minus(reserved).minus(seen);
+    mark(places, &news, place);
+    *seen = seen.union(&news);
 }
 
-/// The place of the one that a container waits for to get its target, and past the end where it waits for none.
-fn next_of<K: Kernel>(kernel: &K, reserved: &IdSet, entries: &[Entry], entry: &Entry) -> usize
-    requires group { has_group (K.state kernel.now).tree entry.now.group ≡ true }
+/// Notes at each CPU outside the reserved ones the place of the first live container that holds it, and tells which
+/// CPUs one holds.
+fn note_holders<K: Kernel>(
+    kernel: &K,
+    reserved: &IdSet,
+    entries: &[Entry],
+    any: bool,
+    places: &mut [usize; CPUS],
+) -> IdSet
     requires placed { ArePlaced (K.state kernel.now) entries.now }
+    requires room { length places.old ≡ CPU_LIMIT }
+    ensures room { length places.new ≡ CPU_LIMIT }
+    ensures firsts { AreFirsts (K.state kernel.now) reserved.now entries.now any (length entries.now) result places.new }
+{
+    let mut seen = IdSet::empty();
+    for place in 0..entries.len() {
+        note_holder(kernel, reserved, entries, any, place, &mut seen, places);
+    }
+    seen
+}
+
+/// The place of the one that a container waits for to get its target, and past the end where it waits for none, by the
+/// table of those that count for it.
+fn next_of<K: Kernel>(
+    kernel: &K,
+    reserved: &IdSet,
+    entries: &[Entry],
+    seen: &IdSet,
+    places: &[usize; CPUS],
+    entry: &Entry,
+) -> usize
+    requires group { has_group (K.state kernel.now).tree entry.now.group ≡ true }
+    requires room { length places.now ≡ CPU_LIMIT }
+    requires firsts { AreFirsts (K.state kernel.now) reserved.now entries.now entry.now.pinned (length entries.now) seen.now
+        places.now }
     ensures { next (K.state kernel.now) reserved.now entries.now entry.now ≡ slice_get entries.now result }
 {
     let lacking = entry.target.minus(requested(kernel, entry.group));
-    first_holder(kernel, reserved, entries, entry, &lacking)
+    let held = lacking.meet(seen);
+    least_place(places, &held, entries.len())
+}
+
+/// The same, by both tables: for a pinned container anyone counts, for a shared one those that are pinned.
+fn next_by<K: Kernel>(
+    kernel: &K,
+    reserved: &IdSet,
+    entries: &[Entry],
+    held: &IdSet,
+    holders: &[usize; CPUS],
+    owned: &IdSet,
+    owners: &[usize; CPUS],
+    entry: &Entry,
+) -> usize
+    requires group { has_group (K.state kernel.now).tree entry.now.group ≡ true }
+    requires room { (length holders.now ≡ CPU_LIMIT) × (length owners.now ≡ CPU_LIMIT) }
+    requires holders { AreFirsts (K.state kernel.now) reserved.now entries.now true (length entries.now) held.now holders.now }
+    requires owners { AreFirsts (K.state kernel.now) reserved.now entries.now false (length entries.now) owned.now owners.now }
+    ensures { next (K.state kernel.now) reserved.now entries.now entry.now ≡ slice_get entries.now result }
+{
+    if entry.pinned {
+        next_of(kernel, reserved, entries, held, holders, entry)
+    } else {
+        next_of(kernel, reserved, entries, owned, owners, entry)
+    }
 }
 
 /// Tells for each entry the place of the one that it waits for, or one past the end where it waits for none.
+///
+/// Two walks over all entries note who holds each CPU first, and a third one looks the CPUs up that each lacks.
 pub fn find_nexts<K: Kernel>(kernel: &K, reserved: &IdSet, entries: &[Entry], nexts: &mut [usize])
     requires placed { ArePlaced (K.state kernel.now) entries.now }
     requires room { length nexts.old ≡ length entries.now }
     ensures { AreNexts (K.state kernel.now) reserved.now entries.now nexts.new }
 {
+    let mut holders = [0; CPUS];
+    let mut owners = [0; CPUS];
+    let held = note_holders(kernel, reserved, entries, true, &mut holders);
+    let owned = note_holders(kernel, reserved, entries, false, &mut owners);
     for (place, entry) in entries.iter().enumerate() {
-        nexts[place] = next_of(kernel, reserved, entries, entry);
+        nexts[place] = next_by(
+            kernel, reserved, entries, &held, &holders, &owned, &owners, entry,
+        );
     }
 }
 

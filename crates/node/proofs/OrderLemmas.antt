@@ -43,12 +43,14 @@ use Rattle.apply_plan.specs.DirectOneStepLemmas.{direct_steps_leave}
 use Rattle.apply_plan.specs.DirectRuns as direct
 use Rattle.apply_plan.specs.DirectRunLemmas.{ends_directly}
 use Rattle.apply_plan.specs.Squeezes.{SqueezesOnlyStuck}
+use Rattle.direct_finish.specs.FollowersLeave.{FollowerLeaves}
+use Rattle.direct_finish.specs.FollowerLemmas.{followers_leave}
 use Rattle.node.specs.declared.order.Order.{Order}
 use Rattle.node.specs.declared.order.Order.TheVariants.{InTurn, Directly}
 use Rattle.node.specs.NodeState.{Ongoing}
 use Rattle.node.specs.Ongoing.{IsSince, IsOnWay, AreSince}
 use Rattle.node.specs.LeastCores.{least_cores}
-use Rattle.node.specs.Orders.{directed_of, StepsBy, left_by, FallsBy, made_by}
+use Rattle.node.specs.Orders.{directed_of, StepsBy, WritesBy, left_by, FallsBy, made_by}
 use Rattle.node.proofs.ListLemmas.{all_of, all_map2, zip_map}
 use Rattle.node.proofs.LeastLemmas.{least_is}
 
@@ -72,11 +74,24 @@ pub record StepLeft (order : Order) (m : Layout) (o : Ongoing) (old : KernelStat
   pub squeezes : order ≡ Directly → SqueezesOnlyStuck (directed_of o) (least_cores m) old new
   pub kernel : StepKeeps old new
 
--- each step leaves this
-abbrev pub OrdersLeave : Type 0
-OrdersLeave =
-    (order : Order) (m : Layout) (o : Ongoing) (old : KernelState) (r : Result Progress KernelFault) (new : KernelState) → IsSound m → AllByRecursion InRange o.allowed
-    → IsOpen o.targets old → StepsBy order m o old r new → StepLeft order m o old r new
+-- what one of the writes leaves that are made all at once
+pub record WriteLeft (order : Order) (m : Layout) (o : Ongoing) (old new : KernelState) : Type 0 where
+  pub safe : IsSafe old o.targets.reserved (holders_of o.targets.entries) → IsSafe new o.targets.reserved (holders_of o.targets.entries)
+  pub rest : KeepsRest o.targets old new
+  pub fewer : left_by order o.targets new + 1 ≤ left_by order o.targets old
+  pub since : o.targets.reserved ≡ old.reserved → AreSince order old o → AreSince order new o
+  pub counted : new.failures ≡ old.failures
+  pub spends : new.writes + left_by order o.targets new ≤ old.writes + left_by order o.targets old
+  pub exact : order ≡ InTurn → Spends o.targets old 0 new
+  pub squeezes : order ≡ Directly → SqueezesOnlyStuck (directed_of o) (least_cores m) old new
+  pub kernel : StepKeeps old new
+
+-- each step leaves this, and each of the writes
+pub record OrdersLeave : Type 0 where
+  pub step : (order : Order) (m : Layout) (o : Ongoing) (old : KernelState) (r : Result Progress KernelFault) (new : KernelState) → IsSound m → AllByRecursion InRange o.allowed
+      → IsOpen o.targets old → StepsBy order m o old r new → StepLeft order m o old r new
+  pub write : (order : Order) (m : Layout) (o : Ongoing) (old new : KernelState) → IsSound m → AllByRecursion InRange o.allowed
+      → IsOpen o.targets old → WritesBy order m o old new → WriteLeft order m o old new
 
 -- a call of somebody else leaves no more to do
 abbrev pub CallsLeave : Type 0
@@ -228,9 +243,58 @@ module _ (m : Layout) (o : Ongoing) (old new : KernelState) where
 serves_it : (m : Layout) (o : Ongoing) → IsSound m → AllByRecursion InRange o.allowed → Serves (directed_of o) (least_cores m)
 serves_it m o sound ranged = record { told = least_is m sound; ranged = ranged }
 
+-- each of the writes of the direct order
+module _ (m : Layout) (o : Ongoing) (old : KernelState) (w : Write) where
+  abbrev next : KernelState
+  next = written old (Some w)
+
+  write_directly : IsOpen o.targets old → FollowerLeaves (directed_of o) (least_cores m) old next → WriteLeft Directly m o old next
+  write_directly opened left = record {
+    safe = left.safe;
+    rest = left.rest;
+    fewer = left.fewer;
+    since = λ reserve. since_directly o old next opened.handover left.rest reserve
+        (left.on_way old (all_of (λ e. OnWay o.targets.reserved (allowed_of (directed_of o) e) old e (held old e)) (λ e. record { keeps = λ q h t. h; within = λ q h. inl h }) o.targets.entries));
+    counted = refl;
+    spends = (let fewer : left_directly o.targets next + 1 ≤ left_directly o.targets old = left.fewer in
+        let one : next.writes ≡ old.writes + 1 = refl in
+        omega (arith, fewer, one));
+    exact = λ is. absurd (let x : ⊥ = cc is in x);
+    squeezes = λ _. left.squeezes;
+    kernel = left.kernel;
+  }
+
+-- a step in turn after which more are to come is one of its writes
+write_in_turn : (m : Layout) (o : Ongoing) (old new : KernelState) → StepLeft InTurn m o old (Ok More) new → WriteLeft InTurn m o old new
+write_in_turn m o old new left =
+    let counted : new.failures ≡ old.failures + 0 = left.counted in
+    let spends : new.writes + left_by InTurn o.targets new ≤ old.writes + left_by InTurn o.targets old + 0 = left.spends in
+    record {
+      safe = left.safe;
+      rest = left.rest;
+      fewer = left.fewer refl;
+      since = left.since;
+      counted = omega (arith, counted);
+      spends = omega (arith, spends);
+      exact = left.exact;
+      squeezes = left.squeezes;
+      kernel = left.kernel;
+    }
+
+each_step : (order : Order) (m : Layout) (o : Ongoing) (old : KernelState) (r : Result Progress KernelFault) (new : KernelState) → IsSound m → AllByRecursion InRange o.allowed
+    → IsOpen o.targets old → StepsBy order m o old r new → StepLeft order m o old r new
+each_step InTurn m o old r new sound ranged opened s = in_turn m o old new steps_leave opened r s
+each_step Directly m o old r new sound ranged opened s = directly m o old new direct_steps_leave (serves_it m o sound ranged) opened r s
+
+each_write : (order : Order) (m : Layout) (o : Ongoing) (old new : KernelState) → IsSound m → AllByRecursion InRange o.allowed
+    → IsOpen o.targets old → WritesBy order m o old new → WriteLeft order m o old new
+each_write InTurn m o old new sound ranged opened s = write_in_turn m o old new (in_turn m o old new steps_leave opened (Ok More) s)
+each_write Directly m o old new sound ranged opened (w, follows, is) =
+    subst (λ (k : KernelState). WriteLeft Directly m o old k) (sym is)
+    (write_directly m o old w opened (followers_leave (directed_of o) (least_cores m) old w (serves_it m o sound ranged) opened follows))
+
 pub both_leave : OrdersLeave
-both_leave InTurn m o old r new sound ranged opened s = in_turn m o old new steps_leave opened r s
-both_leave Directly m o old r new sound ranged opened s = directly m o old new direct_steps_leave (serves_it m o sound ranged) opened r s
+both_leave = record { step = each_step; write = each_write }
 
 pub calls_leave : CallsLeave
 calls_leave InTurn m o old new c r sound ranged opened apart step =

@@ -7,6 +7,7 @@ use Rattle.cpuset_tree.specs.declared.Group.{Group}
 use Rattle.cpuset_tree.specs.Groups.{same_group, is_root_entry, cpus_in, mems_in}
 use Rattle.kernel_model.specs.declared.KernelFault.{KernelFault}
 use Rattle.kernel_model.specs.KernelState.{KernelState}
+use Rattle.kernel_model.specs.Laws.{StepKeeps}
 use Rattle.apply_plan.specs.declared.Progress.{Progress}
 use Rattle.apply_plan.specs.declared.Progress.TheVariants.{More, Done}
 use Rattle.apply_plan.specs.Holders.{IsSafe}
@@ -27,12 +28,12 @@ use Rattle.node.specs.NodeState.{Ongoing, NodeState, is_underway}
 use Rattle.node.specs.Owners.{Owner, owners_of}
 use Rattle.node.specs.Ongoing.{AreOf, AreSince, IsOngoing, Stands, IsBroken}
 use Rattle.node.specs.LeastCores.{least_cores}
-use Rattle.node.specs.Orders.{directed_of, StepsBy, left_of, FallsBy, made_by}
+use Rattle.node.specs.Orders.{directed_of, StepsBy, WritesBy, left_of, FallsBy, made_by}
 use Rattle.node.specs.IsNode.{IsHome, IsShallow, IsPlaced, IsFirst, Holds, IsNode}
 use Rattle.node.specs.Leaves.{rise_of}
-use Rattle.node.specs.Rebalance.{Stepped, StepsOn}
+use Rattle.node.specs.Rebalance.{Stepped, StepsOn, Writes}
 use Rattle.node.proofs.ListLemmas.{all_map}
-use Rattle.node.proofs.OrderLemmas.{StepLeft, OrdersLeave}
+use Rattle.node.proofs.OrderLemmas.{StepLeft, WriteLeft, OrdersLeave}
 use Rattle.node.proofs.HoldsLemmas.{same_owned}
 use Rattle.node.proofs.OngoingLemmas.{of_entries, entries_safe, owners_safe, same_of, none_open}
 use Rattle.node.proofs.LaunchLemmas.{Stays, child_differs, is_there}
@@ -57,11 +58,10 @@ module _ (parent : Group) (owners : List Owner) where
         (all_map (λ w. IsFirst k.table w.holder) (λ w. w.holder.pid < k.table.next_pid) (λ w f. f.given) owners h.first);
   }
 
-  module _ (m : Layout) (o : Ongoing) (old new : KernelState) (h : Holds old parent owners) (g : IsOngoing old owners o) (r : Result Progress KernelFault)
-      (leaves : StepLeft o.order m o old r new) where
-    rest : KeepsRest o.targets old new
-    rest = leaves.rest
-
+  -- where this is what a step or a write leaves
+  module _ (o : Ongoing) (old new : KernelState) (h : Holds old parent owners) (g : IsOngoing old owners o) (rest : KeepsRest o.targets old new)
+      (keeps_safe : IsSafe old o.targets.reserved (holders_of o.targets.entries) → IsSafe new o.targets.reserved (holders_of o.targets.entries))
+      (keeps_since : o.targets.reserved ≡ old.reserved → AreSince o.order old o → AreSince o.order new o) (kernel : StepKeeps old new) where
     -- the containers' parent is no entry's group
     apart : AllByRecursion (λ e. same_group e.group parent ≡ false) o.targets.entries
     apart =
@@ -104,16 +104,16 @@ module _ (parent : Group) (owners : List Owner) where
     safe =
         owners_safe new new.reserved o.targets.entries owners of
         (subst (λ s. IsSafe new s (holders_of o.targets.entries)) reserve
-        (leaves.safe (subst (λ s. IsSafe old s (holders_of o.targets.entries)) (sym g.reserved) (entries_safe old old.reserved o.targets.entries owners g.of h.safe))))
+        (keeps_safe (subst (λ s. IsSafe old s (holders_of o.targets.entries)) (sym g.reserved) (entries_safe old old.reserved o.targets.entries owners g.of h.safe))))
 
     since : AreSince o.order new o
-    since = leaves.since g.reserved g.since
+    since = keeps_since g.reserved g.since
 
     pub moved : Moved o old new
     moved = record {
       stays = record {
         holds = record {
-          kernel = leaves.kernel.well_formed;
+          kernel = kernel.well_formed;
           home = home;
           shallow = shallow;
           distinct = h.distinct;
@@ -122,7 +122,7 @@ module _ (parent : Group) (owners : List Owner) where
           owned = same_owned old.table new.table owners h.owned rest.table;
           safe = safe;
         };
-        machine = leaves.kernel.machine;
+        machine = kernel.machine;
       };
       ongoing = record { handover = g.handover; reserved = reserve; of = of; ranged = g.ranged; since = since };
       rest = rest;
@@ -132,6 +132,10 @@ module _ (parent : Group) (owners : List Owner) where
 pub its_steps : (old : NodeState) (o : Ongoing) → old.ongoing ≡ Some o → (new : NodeState) (r : Result Progress KernelFault) (phase : Phase) (ongoing : Option Ongoing)
     → Stepped old r phase ongoing new → StepsBy o.order old.machine o old.kernel r new.kernel
 its_steps old o was new r phase ongoing s = subst (λ (x : Ongoing). StepsBy x.order old.machine x old.kernel r new.kernel) (same_Some s.handover o (sym s.was ∙ was)) s.steps
+
+-- what one of the writes is of it
+pub its_writes : (old : NodeState) (o : Ongoing) → old.ongoing ≡ Some o → (new : NodeState) → Writes old new → WritesBy o.order old.machine o old.kernel new.kernel
+its_writes old o was new s = subst (λ (x : Ongoing). WritesBy x.order old.machine x old.kernel new.kernel) (same_Some s.handover o (sym s.was ∙ was)) s.writes
 
 -- the same of what it answered
 pub answered : (order : Order) (m : Layout) (o : Ongoing) (old new : KernelState) (p q : Progress) → p ≡ q → StepsBy order m o old (Ok p) new
@@ -156,16 +160,28 @@ module _ (law : OrdersLeave) (n : NodeState) (h : IsNode n) (o : Ongoing) (was :
   pub open_now : IsOpen o.targets n.kernel
   open_now = is_open n.parent Owners n.kernel h.holds o stands.1
 
+  -- the hand-over stays open
+  node_at : (new : KernelState) → Moved n.parent Owners o n.kernel new → IsNode (record n { kernel = new })
+  node_at new moved_on = kernel_node n h new moved_on.stays (subst (Stands new Owners (is_underway n.phase)) (sym was) (stands.0, moved_on.ongoing))
+
+  -- one of the writes that are made all at once
+  module _ (new : KernelState) (s : WritesBy o.order n.machine o n.kernel new) where
+    pub wrote : WriteLeft o.order n.machine o n.kernel new
+    wrote = law.write o.order n.machine o n.kernel new h.layout.sound stands.1.ranged open_now s
+
+    pub wrote_node : IsNode (record n { kernel = new })
+    wrote_node = node_at new (moved n.parent Owners o n.kernel new h.holds stands.1 wrote.rest wrote.safe wrote.since wrote.kernel)
+
   module _ (new : KernelState) (r : Result Progress KernelFault) (s : StepsBy o.order n.machine o n.kernel r new) where
     pub leaves : StepLeft o.order n.machine o n.kernel r new
-    leaves = law o.order n.machine o n.kernel r new h.layout.sound stands.1.ranged open_now s
+    leaves = law.step o.order n.machine o n.kernel r new h.layout.sound stands.1.ranged open_now s
 
     pub moved_on : Moved n.parent Owners o n.kernel new
-    moved_on = moved n.parent Owners n.machine o n.kernel new h.holds stands.1 r leaves
+    moved_on = moved n.parent Owners o n.kernel new h.holds stands.1 leaves.rest leaves.safe leaves.since leaves.kernel
 
     -- a step after which more are to come, and one that ends the hand-over
     pub more_node : IsNode (record n { kernel = new })
-    more_node = kernel_node n h new moved_on.stays (subst (Stands new Owners (is_underway n.phase)) (sym was) (stands.0, moved_on.ongoing))
+    more_node = node_at new moved_on
 
     pub ended_node : (phase : Phase) → is_underway phase ≡ false → IsNode (record n { kernel = new; phase = phase; ongoing = None })
     ended_node phase settled = record {

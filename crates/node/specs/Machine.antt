@@ -1,5 +1,5 @@
 -- The node machine: calls and events with their answers, one after another, questions among them.
-use Rattle.std.specs.Prelude.{◌≡◌, ℕ, List, [], ◌∷◌, map, Result, Ok}
+use Rattle.std.specs.Prelude.{◌≡◌, ℕ, List, [], ◌∷◌, map, Some, Result, Ok}
 use Rattle.std.specs.List.{AllByRecursion}
 use Rattle.cpu_set.specs.Ids.{Ids}
 use Rattle.cpuset_tree.specs.Effective.{effective_cpus}
@@ -12,22 +12,26 @@ use Rattle.faults.specs.declared.OrMemory.{OrMemory}
 use Rattle.apply_plan.specs.declared.Progress.{Progress}
 use Rattle.apply_plan.specs.Holders.{AreSafe, IsSafe}
 use Rattle.apply_plan.specs.Effects.{HasOnline}
+use Rattle.apply_plan.specs.Squeezes.{SqueezesOnlyStuck}
 use Rattle.node.specs.declared.fault.NodeFault.{NodeFault}
 use Rattle.node.specs.declared.order.Order.{Order}
+use Rattle.node.specs.declared.order.Order.TheVariants.{InTurn, Directly}
 use Rattle.node.specs.declared.outcome.Outcome.{Outcome}
 use Rattle.node.specs.declared.outcome.Outcome.TheVariants.{Plan}
-use Rattle.node.specs.NodeState.{NodeState}
+use Rattle.node.specs.NodeState.{Ongoing, NodeState}
 use Rattle.node.specs.Owners.{owners_of}
+use Rattle.node.specs.LeastCores.{least_cores}
+use Rattle.node.specs.Orders.{directed_of}
 use Rattle.node.specs.IsNode.{IsMachine, IsOfMachine, IsNode}
 use Rattle.node.specs.Unused.{IsUnused}
 use Rattle.node.specs.Updates.{Updates}
 use Rattle.node.specs.Calls.{Opens, Creates, Adopts, Starts, Kills, Deletes}
-use Rattle.node.specs.Rebalance.{Begins, StepsOn, Rebalances, Moves}
+use Rattle.node.specs.Rebalance.{Begins, StepsOn, Writes, Rebalances, Moves}
 use Rattle.node.specs.Questions.{Question, Answers}
 use Rattle.node.specs.RebalanceLeaves.{RebalanceLeaves}
 
 -- a call with its answer, or an event of the kernel with its answer; after the calls that may change something those that
--- only read, as one
+-- only read, as one. `WriteOn` is no call of its own: it is one of the writes that a rebalance makes.
 pub data Event : Type 0 where
   Create : List ℕ → List ℕ → List ℕ → Result ℕ (OrMemory NodeFault) → Event
   Adopt : List ℕ → List ℕ → List ℕ → Ids → Result ℕ (OrMemory NodeFault) → Event
@@ -38,6 +42,7 @@ pub data Event : Type 0 where
   Rebalance : Order → Result Outcome (OrMemory NodeFault) → Event
   Begin : Order → Result Outcome (OrMemory NodeFault) → Event
   StepOn : Result Progress NodeFault → Event
+  WriteOn : Event
   Ask : Question → Event
   Fork : ℕ → Result ℕ (OrMemory KernelFault) → Event
   Exit : ℕ → Result (Unit {0}) KernelFault → Event
@@ -59,6 +64,7 @@ Step old (Delete id answer) new = Deletes old id answer new
 Step old (Rebalance order answer) new = Rebalances order old answer new
 Step old (Begin order answer) new = Begins order old answer new
 Step old (StepOn answer) new = StepsOn old answer new
+Step old WriteOn new = Writes old new
 Step old (Ask question) new = Answers old question × (new ≡ old)
 Step old (Fork parent answer) new = Forks old.kernel parent answer new.kernel × InKernel old new
 Step old (Exit pid answer) new = Exits old.kernel pid answer new.kernel × InKernel old new
@@ -92,17 +98,35 @@ RunsStayApart =
     → AllByRecursion (HasOnline new.kernel) (map (λ o. o.holder) (owners_of new.containers))
     → AreSafe new.kernel new.kernel.reserved (effective_cpus new.kernel.tree) (map (λ o. o.holder) (owners_of new.containers))
 
--- a step of a hand-over, which makes one write at most
+-- a write of a hand-over, or a step of it, which makes one write at most
+abbrev pub IsOneWrite : Event → Type 0
+IsOneWrite (StepOn answer) = Unit {0}
+IsOneWrite WriteOn = Unit {0}
+IsOneWrite event = ⊥
+
+-- a rebalance that hands over leaves what `begin`, which writes nothing, and then single writes leave. What holds after each
+-- of these holds of what it leaves, wherever a write fails.
+abbrev pub RebalancesAreWrites : Type 0
+RebalancesAreWrites =
+    (order : Order) (old : NodeState) (total : ℕ) (answer : Result (Unit {0}) KernelFault) (new : NodeState) → Moves order old total answer new
+    → (writes : List Event) × AllByRecursion IsOneWrite writes × Run old (Begin order (Ok (Plan total)) ∷ writes) new
+
+-- in turn each of them is a step
 abbrev pub IsOneStep : Event → Type 0
 IsOneStep (StepOn answer) = Unit {0}
 IsOneStep event = ⊥
 
--- a rebalance that hands over leaves what `begin`, which writes nothing, and then steps alone leave. What holds after each of
--- these holds of what it leaves, wherever a write fails.
+-- so a rebalance in turn leaves what `begin` and then steps alone leave
 abbrev pub RebalancesAreSteps : Type 0
 RebalancesAreSteps =
-    (order : Order) (old : NodeState) (total : ℕ) (answer : Result (Unit {0}) KernelFault) (new : NodeState) → Moves order old total answer new
-    → (steps : List Event) × AllByRecursion IsOneStep steps × Run old (Begin order (Ok (Plan total)) ∷ steps) new
+    (old : NodeState) (total : ℕ) (answer : Result (Unit {0}) KernelFault) (new : NodeState) → Moves InTurn old total answer new
+    → (steps : List Event) × AllByRecursion IsOneStep steps × Run old (Begin InTurn (Ok (Plan total)) ∷ steps) new
+
+-- a write of a direct hand-over squeezes only one that is stuck in a ring
+abbrev pub WritesSqueezeOnlyStuck : Type 0
+WritesSqueezeOnlyStuck =
+    (old new : NodeState) (o : Ongoing) → IsNode old → Step old WriteOn new → old.ongoing ≡ Some o → o.order ≡ Directly
+    → SqueezesOnlyStuck (directed_of o) (least_cores old.machine) old.kernel new.kernel
 
 -- after any list of them a rebalance leaves what the headline says of its answer. With it stand what the certificate tells
 -- and what a failed write leaves.

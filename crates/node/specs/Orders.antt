@@ -1,16 +1,18 @@
 -- What a step of a hand-over is in each order, and what it leaves to do.
-use Rattle.std.specs.Prelude.{◌≡◌, ℕ, zero, suc, ◌+◌, ◌≤◌, Result, Ok}
+use Rattle.std.specs.Prelude.{◌≡◌, ℕ, zero, suc, ◌+◌, ◌≤◌, Some, Result, Ok}
 use Rattle.kernel_model.specs.declared.KernelFault.{KernelFault}
 use Rattle.kernel_model.specs.KernelState.{KernelState}
 use Rattle.machine.specs.Layout.{Layout}
 use Rattle.apply_plan.specs.declared.Progress.{Progress}
 use Rattle.apply_plan.specs.declared.Progress.TheVariants.{More}
 use Rattle.apply_plan.specs.Targets.{Targets}
-use Rattle.apply_plan.specs.DueWrite.{Steps, writes_to_come, made_by_step}
+use Rattle.apply_plan.specs.declared.scan.Write.{Write}
+use Rattle.apply_plan.specs.DueWrite.{Steps, written, writes_to_come, made_by_step}
 use Rattle.apply_plan.specs.Finishes.{last_answer}
 use Rattle.apply_plan.specs.MayWrite.{left_directly}
 use Rattle.apply_plan.specs.Directed.{Directed}
 use Rattle.apply_plan.specs.DirectWrite.{StepsDirectly, made_directly}
+use Rattle.direct_finish.specs.FinishesDirectly.{MayFollow}
 use Rattle.node.specs.declared.order.Order.{Order}
 use Rattle.node.specs.declared.order.Order.TheVariants.{InTurn, Directly}
 use Rattle.node.specs.NodeState.{Ongoing}
@@ -25,16 +27,22 @@ abbrev pub StepsBy : Order → Layout → Ongoing → KernelState → Result Pro
 StepsBy InTurn m o old r new = Steps o.targets old r new
 StepsBy Directly m o old r new = StepsDirectly (directed_of o) (least_cores m) old r new
 
--- n steps, after each of which more are to come
-abbrev pub StepsMoreBy : Order → Layout → Ongoing → ℕ → KernelState → KernelState → Type 0
-StepsMoreBy order m o zero old new = new ≡ old
-StepsMoreBy order m o (suc n) old new = (mid : KernelState) × StepsBy order m o old (Ok More) mid × StepsMoreBy order m o n mid new
+-- one of the writes that are made all at once, but for the one that ends them: in turn a step after which more are to come;
+-- directly a write by which a container takes its target, of which no rival holds any, or the one that a single step makes
+abbrev pub WritesBy : Order → Layout → Ongoing → KernelState → KernelState → Type 0
+WritesBy InTurn m o old new = Steps o.targets old (Ok More) new
+WritesBy Directly m o old new = (w : Write) × MayFollow (directed_of o) (least_cores m) old w × (new ≡ written old (Some w))
 
--- the steps up to the one that ends the hand-over
-pub record AllStepsBy (order : Order) (m : Layout) (o : Ongoing) (old : KernelState) (r : Result (Unit {0}) KernelFault) (new : KernelState) : Type 0 where
-  pub steps : ℕ
+-- so many of them, one after another
+abbrev pub WritesManyBy : Order → Layout → Ongoing → ℕ → KernelState → KernelState → Type 0
+WritesManyBy order m o zero old new = new ≡ old
+WritesManyBy order m o (suc n) old new = (mid : KernelState) × WritesBy order m o old mid × WritesManyBy order m o n mid new
+
+-- all of them, and the step that ends the hand-over
+pub record FinishesBy (order : Order) (m : Layout) (o : Ongoing) (old : KernelState) (r : Result (Unit {0}) KernelFault) (new : KernelState) : Type 0 where
+  pub count : ℕ
   pub mid : KernelState
-  pub more : StepsMoreBy order m o steps old mid
+  pub writes : WritesManyBy order m o count old mid
   pub ends : StepsBy order m o mid (last_answer r) new
 
 -- how many writes are left; in the direct order, at most

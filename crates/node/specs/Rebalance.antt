@@ -32,7 +32,7 @@ use Rattle.node.specs.IsNode.{IsKept}
 use Rattle.node.specs.Rows.{as_cpus, rows_of, scaled_rows_of, planned, lacking}
 use Rattle.node.specs.Best.{moved, IsBest}
 use Rattle.node.specs.Entries.{plan_pool, opened}
-use Rattle.node.specs.Orders.{StepsBy}
+use Rattle.node.specs.Orders.{StepsBy, WritesBy}
 
 -- what a node's scaled rows come to as a plan of cores. Their CPUs are the best sets that the containers could have. It is a
 -- least plan of these rows, with the cores' distance and their moves as its total.
@@ -115,30 +115,37 @@ StepsOn old (Err (Kernel fault)) new = Stepped old (Err fault) Unsettled None ne
 StepsOn old (Err NoHandover) new = (is_underway old.phase ≡ false) × (new ≡ old)
 StepsOn old (Err fault) new = ⊥
 
--- n steps, after each of which more are to come
-abbrev pub StepsMore : ℕ → NodeState → NodeState → Type 0
-StepsMore zero old new = new ≡ old
-StepsMore (suc n) old new = (mid : NodeState) × StepsOn old (Ok More) mid × StepsMore n mid new
+-- one of the writes of the open hand-over that a rebalance makes, but for the one that ends it
+pub record Writes (old new : NodeState) : Type 0 where
+  pub handover : Ongoing
+  pub was : old.ongoing ≡ Some handover
+  pub writes : WritesBy handover.order old.machine handover old.kernel new.kernel
+  pub is : new ≡ record old { kernel = new.kernel }
+
+-- so many of them, one after another
+abbrev pub WritesMany : ℕ → NodeState → NodeState → Type 0
+WritesMany zero old new = new ≡ old
+WritesMany (suc n) old new = (mid : NodeState) × Writes old mid × WritesMany n mid new
 
 -- the step that ends a hand-over
 abbrev pub Ends : NodeState → Result (Unit {0}) KernelFault → NodeState → Type 0
 Ends old (Ok done) new = StepsOn old (Ok Done) new
 Ends old (Err fault) new = StepsOn old (Err (Kernel fault)) new
 
--- steps until the hand-over ends
+-- the writes of the open hand-over, and the step that ends it
 pub record Finishes (old : NodeState) (r : Result (Unit {0}) KernelFault) (new : NodeState) : Type 0 where
-  pub steps : ℕ
+  pub count : ℕ
   pub mid : NodeState
-  pub more : StepsMore steps old mid
+  pub writes : WritesMany count old mid
   pub ends : Ends mid r new
 
--- `begin` in this order, and steps until its hand-over ends
+-- `begin` in this order, and the writes of its hand-over until it ends
 pub record Moves (order : Order) (old : NodeState) (total : ℕ) (r : Result (Unit {0}) KernelFault) (new : NodeState) : Type 0 where
   pub mid : NodeState
   pub begun : Begun order old total mid
   pub finishes : Finishes mid r new
 
--- `rebalance`, or `rebalance_directly`, by the order: what `begin` and steps until the hand-over ends leave
+-- `rebalance`, or `rebalance_directly`, by the order: what `begin` and the writes of its hand-over leave, up to its end
 abbrev pub Rebalances : Order → NodeState → Result Outcome (OrMemory NodeFault) → NodeState → Type 0
 Rebalances order old (Ok (Plan total)) new = Moves order old total (Ok tt) new
 Rebalances order old (Ok (Short wanted allowed)) new = Lacks old wanted allowed new
