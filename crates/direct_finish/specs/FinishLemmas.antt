@@ -68,7 +68,7 @@ module _ (d : Directed) (valid : IsHandover d.targets) (least : Least) (serves :
     abbrev pub last : KernelState
     last = after old f.writes
 
-    last_placed : ArePlaced last d.targets.entries
+    pub last_placed : ArePlaced last d.targets.entries
     last_placed = (along (λ k. Unit {0}) (λ k w p m u. tt) old f.writes f.follow placed tt).0
 
     -- what the last one keeps, the end keeps

@@ -4,7 +4,7 @@ use Rattle.kernel_model.specs.KernelState.{KernelState}
 use Rattle.kernel_model.specs.Laws.{StepKeeps}
 use Rattle.apply_plan.specs.declared.scan.Write.{Write}
 use Rattle.apply_plan.specs.Holders.{IsSafe}
-use Rattle.apply_plan.specs.Targets.{holders_of}
+use Rattle.apply_plan.specs.Targets.{holders_of, IsHandover, ArePlaced}
 use Rattle.apply_plan.specs.DueWrite.{must_move, written}
 use Rattle.apply_plan.specs.Leaves.{KeepsRest}
 use Rattle.apply_plan.specs.Runs.{IsOpen}
@@ -37,6 +37,6 @@ pub record StepsFollow (d : Directed) (least : Least) (k : KernelState) : Type 0
   pub some : (w : Write) → MayFollow d least k w → is_some (due_directly d least k) ≡ true
   pub none : is_none (find (must_move k) d.targets.entries) ≡ true → is_none (due_directly d least k) ≡ true
 
--- so it is while a hand-over is open
+-- so it is wherever the entries' groups are there
 abbrev pub EachStepFollows : Type 0
-EachStepFollows = (d : Directed) (least : Least) (k : KernelState) → Serves d least → IsOpen d.targets k → StepsFollow d least k
+EachStepFollows = (d : Directed) (least : Least) (k : KernelState) → IsHandover d.targets → Serves d least → ArePlaced k d.targets.entries → StepsFollow d least k

@@ -38,14 +38,14 @@ use Rattle.node.specs.Best.{CouldHave}
 use Rattle.node.specs.Entries.{Target, entry_of, plan_targets, plan_entries, opened}
 use Rattle.node.specs.declared.order.Order.{Order}
 use Rattle.node.specs.Orders.{StepsBy, made_by}
-use Rattle.node.specs.Rebalance.{StepsMore, Ends}
-use Rattle.node.specs.Disturbs.{before, last_write, writes_of_steps, writes_of_moves, times_written, IsLittleWritten, WritesLittle, RebalancesWriteLittle}
+use Rattle.node.specs.Rebalance.{WritesMany, Ends}
+use Rattle.node.specs.Disturbs.{before, last_write, writes_of_many, writes_of_moves, times_written, IsLittleWritten, WritesLittle, RebalancesWriteLittle}
 use Rattle.node.proofs.ListLemmas.{all_map, all_map2, all_of, all_of_map, of_all_map}
 use Rattle.node.proofs.HeadlineLemmas.{begun_node}
 use Rattle.node.proofs.OngoingLemmas.{entries_safe}
 use Rattle.node.proofs.OrderLemmas.{OrdersLeave}
 use Rattle.node.proofs.PlanLemmas.{opened_ongoing}
-use Rattle.node.proofs.StepLemmas.{its_steps, open_now, leaves, more_node}
+use Rattle.node.proofs.StepLemmas.{its_steps, its_writes, turn_step, open_now, leaves, wrote_node}
 
 -- ---- one more write
 
@@ -238,21 +238,22 @@ module _ (law : OrdersLeave) (o : Ongoing) (in_turn : o.order ≡ InTurn) where
       last_little old h was (due s.handover.targets old.kernel) (same_due old h was s.handover s.was) new.kernel
       (made_one old new.kernel (leaves law old h o was new.kernel (Err fault) (its_steps old o was new (Err fault) Unsettled None s)).made)
 
-  all_little : (count : ℕ) (old mid new : NodeState) → IsNode old → old.ongoing ≡ Some o → (more : StepsMore count old mid) (r : Result (Unit {0}) KernelFault)
-      (ends : Ends mid r new) → Little o old.kernel (writes_of_steps count old mid more (last_write mid r new ends)) new.kernel
+  all_little : (count : ℕ) (old mid new : NodeState) → IsNode old → old.ongoing ≡ Some o → (more : WritesMany count old mid) (r : Result (Unit {0}) KernelFault)
+      (ends : Ends mid r new) → Little o old.kernel (writes_of_many count old mid more (last_write mid r new ends)) new.kernel
   all_little zero old mid new h was more r ends =
       let node : IsNode mid = subst (λ (n : NodeState). IsNode n) (sym more) h in
       let its : mid.ongoing ≡ Some o = ap (λ (n : NodeState). n.ongoing) more ∙ was in
       subst (λ (n : NodeState). Little o n.kernel (last_write mid r new ends) new.kernel) more (ended_little mid node its r new ends)
   all_little (suc count) old mid new h was more r ends =
       let s = more.1 in
-      let its = its_steps old o was more.0 (Ok More) old.phase old.ongoing s in
+      let its = its_writes old o was more.0 s in
+      let by = turn_step o.order in_turn old.machine o old.kernel more.0.kernel its in
       let steps : Steps o.targets old.kernel (Ok More) more.0.kernel =
-      subst (λ (order : Order). StepsBy order old.machine o old.kernel (Ok More) more.0.kernel) in_turn its in
-      let node : IsNode more.0 = subst (λ (n : NodeState). IsNode n) (sym s.is) (more_node law old h o was more.0.kernel (Ok More) its) in
+      subst (λ (order : Order). StepsBy order old.machine o old.kernel (Ok More) more.0.kernel) in_turn by in
+      let node : IsNode more.0 = subst (λ (n : NodeState). IsNode n) (sym s.is) (wrote_node law old h o was more.0.kernel its) in
       let there : more.0.ongoing ≡ Some o = ap (λ (n : NodeState). n.ongoing) s.is ∙ was in
       first_little old h was (due s.handover.targets old.kernel) (same_due old h was s.handover s.was) more.0.kernel steps.0
-      (made_one old more.0.kernel (leaves law old h o was more.0.kernel (Ok More) its).made) (writes_of_steps count more.0 mid more.2 (last_write mid r new ends)) new.kernel
+      (made_one old more.0.kernel (leaves law old h o was more.0.kernel (Ok More) by).made) (writes_of_many count more.0 mid more.2 (last_write mid r new ends)) new.kernel
       (all_little count more.0 mid new node there more.2 r ends)
 
 -- ---- what one container waits for
@@ -358,6 +359,6 @@ rebalances_write_little law old total r new h m =
     let writes : List Write = writes_of_moves old total r new m in
     let node : IsNode m.mid = begun_node InTurn old h total m.mid b in
     let l : Little (opened InTurn old sets) m.mid.kernel writes new.kernel =
-    all_little law (opened InTurn old sets) refl f.steps m.mid f.mid new node (ap (λ (n : NodeState). n.ongoing) b.is) f.more r f.ends in
+    all_little law (opened InTurn old sets) refl f.count m.mid f.mid new node (ap (λ (n : NodeState). n.ongoing) b.is) f.writes r f.ends in
     writes_little old h sets b.best.could writes new
     (subst (λ (k : KernelState). Little (opened InTurn old sets) k writes new.kernel) (ap (λ (n : NodeState). n.kernel) b.is) l)

@@ -30,12 +30,12 @@ use Rattle.node.specs.Orders.{left_of}
 use Rattle.node.specs.IsNode.{IsNode}
 use Rattle.node.specs.Updates.{Updates}
 use Rattle.node.specs.Calls.{Ended, Places, Starts, Kills, Deletes}
-use Rattle.node.specs.Rebalance.{Begins, StepsOn, Rebalances}
+use Rattle.node.specs.Rebalance.{Begins, StepsOn, Writes, Rebalances}
 use Rattle.node.specs.Machine.{Event, Step, Run}
-use Rattle.node.specs.Machine.Event.{Create, Adopt, Update, Start, Kill, Delete, Rebalance, Begin, StepOn, Ask, Fork, Exit, Offline, Online}
+use Rattle.node.specs.Machine.Event.{Create, Adopt, Update, Start, Kill, Delete, Rebalance, Begin, StepOn, WriteOn, Ask, Fork, Exit, Offline, Online}
 use Rattle.node.specs.Ending.{step_in, steps_in, IsMore, HandoversEnd}
 use Rattle.node.proofs.OrderLemmas.{OrdersLeave, CallsLeave, FewBy}
-use Rattle.node.proofs.StepLemmas.{its_steps, open_now, leaves}
+use Rattle.node.proofs.StepLemmas.{its_steps, its_writes, open_now, leaves, wrote}
 use Rattle.node.proofs.MachineLemmas.{runs_keep}
 
 -- what so many steps leave of the hand-over
@@ -74,6 +74,11 @@ module _ (law : OrdersLeave) (ends : CallsLeave) (o : Ongoing) (old : NodeState)
     stepped s =
         let e : left_of o new.kernel + 1 ≤ left_of o old.kernel =
         (leaves law old h o was new.kernel (Ok More) (its_steps old o was new (Ok More) old.phase old.ongoing s)).fewer refl in
+        record { still = ap (λ (n : NodeState). n.ongoing) s.is ∙ was; falls = omega (arith, e) }
+
+    wrote_one : Writes old new → Lasts o old 0 new
+    wrote_one s =
+        let e : left_of o new.kernel + 1 ≤ left_of o old.kernel = (wrote law old h o was new.kernel (its_writes old o was new s)).fewer in
         record { still = ap (λ (n : NodeState). n.ongoing) s.is ∙ was; falls = omega (arith, e) }
 
     place_goes : (cpus : Ids) (id bundle config : List ℕ) (r : Result ℕ (OrMemory NodeFault)) → Places cpus old id bundle config r new → Lasts o old 0 new
@@ -133,6 +138,7 @@ module _ (law : OrdersLeave) (ends : CallsLeave) (o : Ongoing) (old : NodeState)
     goes (Rebalance order answer) s more = rebalance_goes order answer s
     goes (Begin order answer) s more = begin_goes order answer s
     goes (StepOn answer) s more = stepped (subst (λ (r : Result Progress NodeFault). StepsOn old r new) more s)
+    goes WriteOn s more = wrote_one s
     goes (Ask question) s more = unchanged s.1
     goes (Fork parent answer) s more = called (ap (λ (n : NodeState). n.ongoing) s.1) (call.Fork parent) tt (reply_of reply.Pid answer) (answer, refl, s.0)
     goes (Exit pid answer) s more =

@@ -1,27 +1,39 @@
 -- What the steps of a hand-over leave, once it ended.
-use Rattle.std.proofs.Common.{◌≡◌, ℕ, zero, suc, ◌+◌, ◌≤◌, true, false, Some, None, refl, sym, ap, ◌∙◌, subst, arith}
+use Rattle.std.proofs.Common.{◌≡◌, ℕ, zero, suc, ◌+◌, ◌≤◌, List, [], ◌∷◌, length, true, false, Some, None, refl, sym, ap, ◌∙◌, subst, arith}
 use Rattle.std.proofs.lemmas.Bool.{false≢true}
-use Rattle.std.specs.Prelude.{Option, Result, Ok, Err, IfErr}
+use Rattle.std.specs.Prelude.{Option, is_none, Result, Ok, Err, IfErr}
 use Rattle.kernel_model.specs.declared.KernelFault.{KernelFault}
 use Rattle.kernel_model.specs.declared.KernelFault.TheVariants.{Failed}
 use Rattle.kernel_model.specs.KernelState.{KernelState}
 use Rattle.kernel_model.specs.Cases.{rise}
 use Rattle.apply_plan.specs.declared.Progress.{Progress}
 use Rattle.apply_plan.specs.declared.Progress.TheVariants.{More, Done}
-use Rattle.apply_plan.specs.DueWrite.{HaveTargets, writes_to_come, Spends}
+use Rattle.apply_plan.specs.declared.scan.Write.{Write}
+use Rattle.apply_plan.specs.DueWrite.{written, progress_of, HaveTargets, writes_to_come, Spends}
+use Rattle.apply_plan.specs.Finishes as turn
+use Rattle.apply_plan.specs.Finishes.{last_answer}
 use Rattle.apply_plan.specs.Leaves.{KeepsRest}
 use Rattle.apply_plan.specs.LeavesLemmas.{rest_then}
-use Rattle.node.specs.declared.order.Order.TheVariants.{InTurn}
+use Rattle.apply_plan.specs.Runs.{IsOpen}
+use Rattle.apply_plan.specs.Directed.{Least, Serves}
+use Rattle.apply_plan.specs.DirectWrite.{due_directly, StepsDirectly}
+use Rattle.direct_finish.specs.FinishesDirectly.{MayFollow, Follow, after, EndsAt, FinishesDirectly}
+use Rattle.direct_finish.specs.FinishLemmas.{last_placed}
+use Rattle.direct_finish.specs.FollowersLeave.{StepsFollow}
+use Rattle.direct_finish.specs.FollowerLemmas.{each_step_follows}
+use Rattle.node.specs.declared.order.Order.{Order}
+use Rattle.node.specs.declared.order.Order.TheVariants.{InTurn, Directly}
 use Rattle.node.specs.declared.phase.Phase.{Phase}
 use Rattle.node.specs.declared.phase.Phase.TheVariants.{Settled, Unsettled}
 use Rattle.node.specs.NodeState.{Ongoing, NodeState, is_underway}
 use Rattle.node.specs.Owners.{owners_of}
 use Rattle.node.specs.Ongoing.{IsOngoing, Stands, IsBroken}
 use Rattle.node.specs.IsNode.{IsNode}
-use Rattle.node.specs.Orders.{StepsMoreBy, AllStepsBy, left_of}
-use Rattle.node.specs.Rebalance.{Stepped, StepsOn, StepsMore, Finishes}
+use Rattle.node.specs.LeastCores.{least_cores}
+use Rattle.node.specs.Orders.{directed_of, StepsBy, WritesBy, FinishesBy, left_of}
+use Rattle.node.specs.Rebalance.{Stepped, Writes, WritesMany, Ends, Finishes}
 use Rattle.node.proofs.OrderLemmas.{OrdersLeave}
-use Rattle.node.proofs.StepLemmas.{its_steps, leaves, moved_on, more_node, ended_node}
+use Rattle.node.proofs.StepLemmas.{its_steps, its_writes, open_now, served_now, leaves, moved_on, ended_node, wrote, wrote_node}
 
 -- what a hand-over leaves that came to its end: a node in which each of its live containers has its target; and nothing
 -- changed but what its groups request
@@ -89,14 +101,13 @@ module _ (law : OrdersLeave) (o : Ongoing) where
           is = s.is;
         }
 
-    -- one step more before them
-    earlier : (old mid new : NodeState) → IsNode old → old.ongoing ≡ Some o → StepsOn old (Ok More) mid → Ended o mid r phase new → Ended o old r phase new
+    -- one write more before them
+    earlier : (old mid new : NodeState) → IsNode old → old.ongoing ≡ Some o → Writes old mid → Ended o mid r phase new → Ended o old r phase new
     earlier old mid new h was s e =
-        let steps = its_steps old o was mid (Ok More) old.phase old.ongoing s in
-        let left = leaves law old h o was mid.kernel (Ok More) steps in
-        let first : mid.kernel.failures ≡ old.kernel.failures + 0 = left.counted in
+        let left = wrote law old h o was mid.kernel (its_writes old o was mid s) in
+        let first : mid.kernel.failures ≡ old.kernel.failures = left.counted in
         let later : new.kernel.failures ≡ mid.kernel.failures + rise r = e.failures in
-        let one : mid.kernel.writes + left_of o mid.kernel ≤ old.kernel.writes + left_of o old.kernel + 0 = left.spends in
+        let one : mid.kernel.writes + left_of o mid.kernel ≤ old.kernel.writes + left_of o old.kernel = left.spends in
         let others : new.kernel.writes + left_of o new.kernel ≤ mid.kernel.writes + left_of o mid.kernel + rise r = e.spends in
         record {
           node = e.node;
@@ -114,16 +125,15 @@ module _ (law : OrdersLeave) (o : Ongoing) where
           is = e.is ∙ ap (λ (n : NodeState). record n { kernel = new.kernel; phase = phase; ongoing = None }) s.is;
         }
 
-    all_steps : (count : ℕ) (old mid new : NodeState) → IsNode old → old.ongoing ≡ Some o → StepsMore count old mid → Stepped mid r phase None new → Ended o old r phase new
-    all_steps zero old mid new h was more s = last_step old new h was (subst (λ (n : NodeState). Stepped n r phase None new) more s)
-    all_steps (suc count) old mid new h was more s =
-        let steps = its_steps old o was more.0 (Ok More) old.phase old.ongoing more.1 in
-        let node = subst (λ (n : NodeState). IsNode n) (sym more.1.is) (more_node law old h o was more.0.kernel (Ok More) steps) in
-        earlier old more.0 new h was more.1 (all_steps count more.0 mid new node (ap (λ (n : NodeState). n.ongoing) more.1.is ∙ was) more.2 s)
+    all_writes : (count : ℕ) (old mid new : NodeState) → IsNode old → old.ongoing ≡ Some o → WritesMany count old mid → Stepped mid r phase None new → Ended o old r phase new
+    all_writes zero old mid new h was more s = last_step old new h was (subst (λ (n : NodeState). Stepped n r phase None new) more s)
+    all_writes (suc count) old mid new h was more s =
+        let node = subst (λ (n : NodeState). IsNode n) (sym more.1.is) (wrote_node law old h o was more.0.kernel (its_writes old o was more.0 more.1)) in
+        earlier old more.0 new h was more.1 (all_writes count more.0 mid new node (ap (λ (n : NodeState). n.ongoing) more.1.is ∙ was) more.2 s)
 
   pub settles : (old new : NodeState) → IsNode old → old.ongoing ≡ Some o → Finishes old (Ok tt) new → Settles o old new
   settles old new h was f =
-      let e = all_steps (Ok Done) Settled refl f.steps old f.mid new h was f.more f.ends in
+      let e = all_writes (Ok Done) Settled refl f.count old f.mid new h was f.writes f.ends in
       let failures : new.kernel.failures ≡ old.kernel.failures + 0 = e.failures in
       let spends : new.kernel.writes + left_of o new.kernel ≤ old.kernel.writes + left_of o old.kernel + 0 = e.spends in
       record {
@@ -149,7 +159,7 @@ module _ (law : OrdersLeave) (o : Ongoing) where
 
   pub breaks : (fault : KernelFault) (old new : NodeState) → IsNode old → old.ongoing ≡ Some o → Finishes old (Err fault) new → Breaks o fault old new
   breaks fault old new h was f =
-      let e = all_steps (Err fault) Unsettled refl f.steps old f.mid new h was f.more f.ends in
+      let e = all_writes (Err fault) Unsettled refl f.count old f.mid new h was f.writes f.ends in
       let failed : fault ≡ Failed = e.failed in
       let failures : new.kernel.failures ≡ old.kernel.failures + 1 = e.failures ∙ ap (λ x. old.kernel.failures + rise {A = Progress} (Err x)) failed in
       record {
@@ -174,35 +184,88 @@ abbrev pub phase_after : Result (Unit {0}) KernelFault → Phase
 phase_after (Ok _) = Settled
 phase_after (Err fault) = Unsettled
 
--- the writes of the open hand-over, made to its end, as steps of the node
+-- the writes of the open hand-over that are made at once, as those of the node
 module _ (o : Ongoing) where
-  more_of : (count : ℕ) (old : NodeState) (k : KernelState) → old.ongoing ≡ Some o → StepsMoreBy o.order old.machine o count old.kernel k → StepsMore count old (record old { kernel = k })
-  more_of zero old k was same = ap (λ (x : KernelState). record old { kernel = x }) same
-  more_of (suc count) old k was (mid, steps, more) =
-      (record old { kernel = mid }, record { handover = o; was = was; steps = steps; is = refl }, more_of count (record old { kernel = mid }) k was more)
+  one_of : (old : NodeState) (k : KernelState) → old.ongoing ≡ Some o → (order : Order) → o.order ≡ order → WritesBy order old.machine o old.kernel k
+      → Writes old (record old { kernel = k })
+  one_of old k was order is s = record {
+    handover = o;
+    was = was;
+    writes = subst (λ (x : Order). WritesBy x old.machine o old.kernel k) (sym is) s;
+    is = refl;
+  }
 
-  all_of : (old : NodeState) (k : KernelState) (r : Result (Unit {0}) KernelFault) → old.ongoing ≡ Some o → AllStepsBy o.order old.machine o old.kernel r k
+  end_of : (old : NodeState) (k : KernelState) (r : Result (Unit {0}) KernelFault) → old.ongoing ≡ Some o → StepsBy o.order old.machine o old.kernel (last_answer r) k
+      → Ends old r (record old { kernel = k; phase = phase_after r; ongoing = None })
+  end_of old k (Ok _) was s = record { handover = o; was = was; steps = s; is = refl }
+  end_of old k (Err fault) was s = record { handover = o; was = was; steps = s; is = refl }
+
+  module _ (in_turn : o.order ≡ InTurn) where
+    turns_of : (count : ℕ) (old : NodeState) (k : KernelState) → old.ongoing ≡ Some o → turn.StepsMore o.targets count old.kernel k
+        → WritesMany count old (record old { kernel = k })
+    turns_of zero old k was same = ap (λ (x : KernelState). record old { kernel = x }) same
+    turns_of (suc count) old k was (mid, step, more) =
+        (record old { kernel = mid }, one_of old mid was InTurn in_turn step, turns_of count (record old { kernel = mid }) k was more)
+
+    all_in_turn : (old : NodeState) (k : KernelState) (r : Result (Unit {0}) KernelFault) → old.ongoing ≡ Some o → turn.Finishes o.targets old.kernel r k
+        → Finishes old r (record old { kernel = k; phase = phase_after r; ongoing = None })
+    all_in_turn old k r was f = record {
+      count = f.steps;
+      mid = record old { kernel = f.mid };
+      writes = turns_of f.steps old f.mid was f.more;
+      ends = end_of (record old { kernel = f.mid }) k r was (subst (λ (x : Order). StepsBy x old.machine o f.mid (last_answer r) k) (sym in_turn) f.ends);
+    }
+
+  none_if : (w : Option Write) → is_none w ≡ true → w ≡ None
+  none_if None is = refl
+  none_if (Some w) is = absurd (false≢true is)
+
+  -- the step that ends it writes nothing, or fails where one of the writes did
+  direct_end : (least : Least) (last k : KernelState) (r : Result (Unit {0}) KernelFault) → StepsFollow (directed_of o) least last
+      → EndsAt (directed_of o) least last r k → StepsDirectly (directed_of o) least last (last_answer r) k
+  direct_end least last k (Ok _) s (same, none) =
+      let rests : due_directly (directed_of o) least last ≡ None = none_if (due_directly (directed_of o) least last) (s.none none) in
+      (same ∙ ap (written last) (sym rests), sym (ap (λ (x : KernelState). progress_of (due_directly (directed_of o) least x)) same ∙ ap progress_of rests))
+  direct_end least last k (Err fault) s (failed, same, (w, follows)) = (failed, same, s.some w follows)
+
+  module _ (directly : o.order ≡ Directly) where
+    directly_of : (ws : List Write) (old : NodeState) → old.ongoing ≡ Some o → Follow (MayFollow (directed_of o) (least_cores old.machine)) old.kernel ws
+        → WritesMany (length ws) old (record old { kernel = after old.kernel ws })
+    directly_of [] old was follow = refl
+    directly_of (w ∷ later) old was follow =
+        let mid = written old.kernel (Some w) in
+        (record old { kernel = mid }, one_of old mid was Directly directly (w, follow.0, refl), directly_of later (record old { kernel = mid }) was follow.1)
+
+    all_directly : (old : NodeState) (k : KernelState) (r : Result (Unit {0}) KernelFault) → old.ongoing ≡ Some o → IsOpen o.targets old.kernel
+        → Serves (directed_of o) (least_cores old.machine) → FinishesDirectly (directed_of o) (least_cores old.machine) old.kernel r k
+        → Finishes old r (record old { kernel = k; phase = phase_after r; ongoing = None })
+    all_directly old k r was opened serves f =
+        let d = directed_of o in
+        let least = least_cores old.machine in
+        let last = after old.kernel f.writes in
+        let follows : StepsFollow d least last =
+        each_step_follows d least last opened.handover serves (last_placed d opened.handover least serves old.kernel k opened.placed r f) in
+        record {
+          count = length f.writes;
+          mid = record old { kernel = last };
+          writes = directly_of f.writes old was f.follow;
+          ends = end_of (record old { kernel = last }) k r was
+              (subst (λ (x : Order). StepsBy x old.machine o last (last_answer r) k) (sym directly) (direct_end least last k r follows f.ends));
+        }
+
+  all_of : (old : NodeState) (k : KernelState) (r : Result (Unit {0}) KernelFault) → old.ongoing ≡ Some o → IsOpen o.targets old.kernel
+      → Serves (directed_of o) (least_cores old.machine) → (order : Order) → o.order ≡ order → FinishesBy order old.machine o old.kernel r k
       → Finishes old r (record old { kernel = k; phase = phase_after r; ongoing = None })
-  all_of old k (Ok _) was f = record {
-    steps = f.steps;
-    mid = record old { kernel = f.mid };
-    more = more_of f.steps old f.mid was f.more;
-    ends = record { handover = o; was = was; steps = f.ends; is = refl };
-  }
-  all_of old k (Err fault) was f = record {
-    steps = f.steps;
-    mid = record old { kernel = f.mid };
-    more = more_of f.steps old f.mid was f.more;
-    ends = record { handover = o; was = was; steps = f.ends; is = refl };
-  }
+  all_of old k r was opened serves InTurn is f = all_in_turn is old k r was f
+  all_of old k r was opened serves Directly is f = all_directly is old k r was opened serves f
 
 -- the same of the node as the program keeps it
 module _ (law : OrdersLeave) (n : NodeState) (h : IsNode n) (o : Ongoing) (was : n.ongoing ≡ Some o) (k : KernelState) (r : Result (Unit {0}) KernelFault)
-    (f : AllStepsBy o.order n.machine o n.kernel r k) (x : Option Ongoing) (none : x ≡ None) where
+    (f : FinishesBy o.order n.machine o n.kernel r k) (x : Option Ongoing) (none : x ≡ None) where
   pub finished : (now : NodeState) → n ≡ now → Finishes now r (record n { kernel = k; phase = phase_after r; ongoing = x })
   finished now is =
       subst (λ (y : Option Ongoing). Finishes now r (record n { kernel = k; phase = phase_after r; ongoing = y })) (sym none)
-      (subst (λ (m : NodeState). Finishes m r (record n { kernel = k; phase = phase_after r; ongoing = None })) is (all_of o n k r was f))
+      (subst (λ (m : NodeState). Finishes m r (record n { kernel = k; phase = phase_after r; ongoing = None })) is (all_of o n k r was (open_now law n h o was) (served_now law n h o was) o.order refl f))
 
   node_after : (a : Result (Unit {0}) KernelFault) (new : NodeState) → Finishes n a new → IsNode new
   node_after (Ok _) new g = (settles law o n new h was g).node

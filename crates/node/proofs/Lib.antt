@@ -11,7 +11,6 @@ pub mod FirstLemmas
 pub mod NodeLemmas
 pub mod LeastLemmas
 pub mod OrderLemmas
-pub mod CourseLemmas
 pub mod StepLemmas
 pub mod FinishLemmas
 pub mod CallLemmas

@@ -1,5 +1,6 @@
 -- What holds of a node holds after any list of calls and events.
-use Rattle.std.proofs.Common.{◌≡◌, inl, inr, ℕ, zero, suc, List, [], ◌∷◌, refl, sym, subst}
+use Rattle.std.proofs.Common.{◌≡◌, inl, inr, ℕ, zero, suc, List, [], ◌∷◌, Some, refl, sym, ap, ◌∙◌, subst}
+use Rattle.std.proofs.lemmas.Option.{same_Some}
 use Rattle.std.specs.List.{AllByRecursion}
 use Rattle.std.specs.Prelude.{map, Result, Ok, Err}
 use Rattle.cpu_set.specs.Ids.{Ids}
@@ -13,19 +14,22 @@ use Rattle.apply_plan.specs.declared.Progress.{Progress}
 use Rattle.apply_plan.specs.declared.Progress.TheVariants.{More, Done}
 use Rattle.apply_plan.specs.Effects.{HasFreeParent, TargetsTakeEffect, SafeInEffect}
 use Rattle.node.specs.declared.fault.NodeFault.{NodeFault}
+use Rattle.node.specs.declared.order.Order.TheVariants.{InTurn}
 use Rattle.node.specs.declared.fault.NodeFault.TheVariants.{Busy, BadId, IdInUse, TooManyContainers, NoContainer, NotCreated, NotRunnable, BadSignal, NotLive, NotStopped, NoHandover, NoAnswer, NotFree, Config, Demand, Kernel}
 use Rattle.node.specs.declared.phase.Phase.TheVariants.{Settled, Unsettled}
-use Rattle.node.specs.NodeState.{NodeState}
+use Rattle.node.specs.NodeState.{Ongoing, NodeState}
 use Rattle.node.specs.Owners.{owners_of}
 use Rattle.node.specs.IsNode.{IsNode}
 use Rattle.node.specs.Updates.{Updates}
 use Rattle.node.specs.Calls.{NotLaunched, Ended, Places, Starts, Kills, Deletes}
-use Rattle.node.specs.Rebalance.{StepsOn, StepsMore, Ends}
-use Rattle.node.specs.Machine.{Event, Step, IsOneStep, Run, RunsKeep, RunsStaySafe, RunsStayApart, RebalancesAreSteps, RunsRebalance}
-use Rattle.node.specs.Machine.Event.{Create, Adopt, Update, Start, Kill, Delete, Rebalance, Begin, StepOn, Ask, Fork, Exit, Offline, Online}
+use Rattle.node.specs.Rows.{as_cpus}
+use Rattle.node.specs.Entries.{opened}
+use Rattle.node.specs.Rebalance.{StepsOn, Writes, WritesMany, Ends}
+use Rattle.node.specs.Machine.{Event, Step, IsOneWrite, IsOneStep, Run, RunsKeep, RunsStaySafe, RunsStayApart, RebalancesAreWrites, RebalancesAreSteps, WritesSqueezeOnlyStuck, RunsRebalance}
+use Rattle.node.specs.Machine.Event.{Create, Adopt, Update, Start, Kill, Delete, Rebalance, Begin, StepOn, WriteOn, Ask, Fork, Exit, Offline, Online}
 use Rattle.node.proofs.NodeLemmas.{fork_node, exit_node, offline_node, online_node, end_node, remove_refused_node, created_node, not_created_node, updated_node, not_updated_node, deleted_node, started_node}
 use Rattle.node.proofs.OrderLemmas.{OrdersLeave}
-use Rattle.node.proofs.StepLemmas.{more_node, ended_node}
+use Rattle.node.proofs.StepLemmas.{its_writes, turn_step, more_node, ended_node, wrote, wrote_node}
 use Rattle.node.proofs.HeadlineLemmas.{free_parents, begins_node, rebalances_node, rebalance_leaves}
 use Rattle.node.proofs.ListLemmas.{all_of_map}
 
@@ -129,6 +133,8 @@ module _ (old : NodeState) (h : IsNode old) (new : NodeState) where
   step_keeps law (Rebalance order answer) s = rebalances_node order old h law answer new s
   step_keeps law (Begin order answer) s = begins_node order old h answer new s
   step_keeps law (StepOn answer) s = stepped law answer s
+  step_keeps law WriteOn s =
+      moved (record old { kernel = new.kernel }) s.is (wrote_node law old h s.handover s.was new.kernel (its_writes old s.handover s.was new s))
   step_keeps law (Ask question) s = unchanged s.1
   step_keeps law (Fork parent answer) s = moved (record old { kernel = new.kernel }) s.1 (fork_node old h new.kernel parent answer s.0)
   step_keeps law (Exit pid answer) s = moved (record old { kernel = new.kernel }) s.1 (exit_node old h new.kernel pid answer s.0)
@@ -153,16 +159,56 @@ module _ (law : OrdersLeave) where
   pub runs_rebalance : TargetsTakeEffect → RowsWeigh → ScaledRowsWeigh → RunsRebalance
   runs_rebalance effects weigh parts first events order old answer new h r b = rebalance_leaves order old (runs_keep first events old h r) law effects weigh parts answer new b
 
--- the steps to the end of a hand-over, as events
-steps_run : (count : ℕ) (old mid new : NodeState) (answer : Result (Unit {0}) KernelFault) → StepsMore count old mid → Ends mid answer new
-    → (steps : List Event) × AllByRecursion IsOneStep steps × Run old steps new
-steps_run zero old mid new (Ok done) more ends = (StepOn (Ok Done) ∷ [], (tt, tt), (new, subst (λ (n : NodeState). StepsOn n (Ok Done) new) more ends, refl))
-steps_run zero old mid new (Err fault) more ends =
-    (StepOn (Err (Kernel fault)) ∷ [], (tt, tt), (new, subst (λ (n : NodeState). StepsOn n (Err (Kernel fault)) new) more ends, refl))
-steps_run (suc count) old mid new answer more ends =
-    let later = steps_run count more.0 mid new answer more.2 ends in (StepOn (Ok More) ∷ later.0, (tt, later.1), (more.0, more.1, later.2))
+-- the step that ends a hand-over, as an event
+ending : Result (Unit {0}) KernelFault → Event
+ending (Ok done) = StepOn (Ok Done)
+ending (Err fault) = StepOn (Err (Kernel fault))
+
+end_run : (P : Event → Type 0) → ((r : Result Progress NodeFault) → P (StepOn r)) → (old mid new : NodeState) (answer : Result (Unit {0}) KernelFault) → mid ≡ old → Ends mid answer new
+    → P (ending answer) × Run old (ending answer ∷ []) new
+end_run P steps old mid new (Ok done) same ends = (steps (Ok Done), (new, subst (λ (n : NodeState). StepsOn n (Ok Done) new) same ends, refl))
+end_run P steps old mid new (Err fault) same ends =
+    (steps (Err (Kernel fault)), (new, subst (λ (n : NodeState). StepsOn n (Err (Kernel fault)) new) same ends, refl))
+
+-- the writes to the end of a hand-over, as events
+writes_run : (count : ℕ) (old mid new : NodeState) (answer : Result (Unit {0}) KernelFault) → WritesMany count old mid → Ends mid answer new
+    → (writes : List Event) × AllByRecursion IsOneWrite writes × Run old writes new
+writes_run zero old mid new answer more ends =
+    let last = end_run IsOneWrite (λ r. tt) old mid new answer more ends in (ending answer ∷ [], (last.0, tt), last.1)
+writes_run (suc count) old mid new answer more ends =
+    let later = writes_run count more.0 mid new answer more.2 ends in (WriteOn ∷ later.0, (tt, later.1), (more.0, more.1, later.2))
+
+pub rebalances_are_writes : RebalancesAreWrites
+rebalances_are_writes order old total answer new m =
+    let writes = writes_run m.finishes.count m.mid m.finishes.mid new answer m.finishes.writes m.finishes.ends in
+    (writes.0, writes.1, (m.mid, m.begun, writes.2))
+
+-- in turn each of them is a step after which more are to come
+module _ (o : Ongoing) (in_turn : o.order ≡ InTurn) where
+  one_step : (old new : NodeState) → old.ongoing ≡ Some o → Writes old new → StepsOn old (Ok More) new
+  one_step old new was s = record {
+    handover = s.handover;
+    was = s.was;
+    steps = turn_step s.handover.order (ap (λ (x : Ongoing). x.order) (same_Some s.handover o (sym s.was ∙ was)) ∙ in_turn)
+        old.machine s.handover old.kernel new.kernel s.writes;
+    is = s.is;
+  }
+
+  steps_run : (count : ℕ) (old mid new : NodeState) (answer : Result (Unit {0}) KernelFault) → old.ongoing ≡ Some o → WritesMany count old mid → Ends mid answer new
+      → (steps : List Event) × AllByRecursion IsOneStep steps × Run old steps new
+  steps_run zero old mid new answer was more ends =
+      let last = end_run IsOneStep (λ r. tt) old mid new answer more ends in (ending answer ∷ [], (last.0, tt), last.1)
+  steps_run (suc count) old mid new answer was more ends =
+      let still : more.0.ongoing ≡ Some o = ap (λ (n : NodeState). n.ongoing) more.1.is ∙ was in
+      let later = steps_run count more.0 mid new answer still more.2 ends in
+      (StepOn (Ok More) ∷ later.0, (tt, later.1), (more.0, one_step old more.0 was more.1, later.2))
 
 pub rebalances_are_steps : RebalancesAreSteps
-rebalances_are_steps order old total answer new m =
-    let steps = steps_run m.finishes.steps m.mid m.finishes.mid new answer m.finishes.more m.finishes.ends in
-    (steps.0, steps.1, (m.mid, m.begun, steps.2))
+rebalances_are_steps old total answer new m =
+    let b = m.begun in
+    let steps = steps_run (opened InTurn old (as_cpus old.machine b.plan)) refl m.finishes.count m.mid m.finishes.mid new answer
+        (ap (λ (n : NodeState). n.ongoing) b.is) m.finishes.writes m.finishes.ends in
+    (steps.0, steps.1, (m.mid, b, steps.2))
+
+pub writes_squeeze_only_stuck : OrdersLeave → WritesSqueezeOnlyStuck
+writes_squeeze_only_stuck law old new o h s was directly = (wrote law old h o was new.kernel (its_writes old o was new s)).squeezes directly

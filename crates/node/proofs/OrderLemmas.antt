@@ -43,8 +43,9 @@ use Rattle.apply_plan.specs.DirectOneStepLemmas.{direct_steps_leave}
 use Rattle.apply_plan.specs.DirectRuns as direct
 use Rattle.apply_plan.specs.DirectRunLemmas.{ends_directly}
 use Rattle.apply_plan.specs.Squeezes.{SqueezesOnlyStuck}
+use Rattle.direct_finish.specs.FinishesDirectly.{MayFollow}
 use Rattle.direct_finish.specs.FollowersLeave.{FollowerLeaves}
-use Rattle.direct_finish.specs.FollowerLemmas.{followers_leave}
+use Rattle.direct_finish.specs.FollowerLemmas.{followers_leave, each_step_follows}
 use Rattle.node.specs.declared.order.Order.{Order}
 use Rattle.node.specs.declared.order.Order.TheVariants.{InTurn, Directly}
 use Rattle.node.specs.NodeState.{Ongoing}
@@ -240,7 +241,7 @@ module _ (m : Layout) (o : Ongoing) (old new : KernelState) where
       }
 
 -- a machine's places serve a hand-over
-serves_it : (m : Layout) (o : Ongoing) → IsSound m → AllByRecursion InRange o.allowed → Serves (directed_of o) (least_cores m)
+pub serves_it : (m : Layout) (o : Ongoing) → IsSound m → AllByRecursion InRange o.allowed → Serves (directed_of o) (least_cores m)
 serves_it m o sound ranged = record { told = least_is m sound; ranged = ranged }
 
 -- each of the writes of the direct order
@@ -340,7 +341,17 @@ module _ (m : Layout) (o : Ongoing) (old : KernelState) (valid : IsHandover o.ta
         (ap (λ (x : Progress). Ok x) (s.1 ∙ ap (λ k. progress_of (due_directly (directed_of o) (least_cores m) k)) same ∙ ap progress_of direct_none), same)
     direct_rests (Err fault) new s = absurd (false≢true (sym (ap is_some direct_none) ∙ s.2))
 
+    direct_holds : (w : Write) → MayFollow (directed_of o) (least_cores m) old w → ⊥
+    direct_holds w follows =
+        let some = (each_step_follows (directed_of o) (least_cores m) old valid serves placed).some w follows in
+        false≢true (sym (ap is_some direct_none) ∙ some)
+
   pub it_rests : IsSound m → AllByRecursion InRange o.allowed → ArePlaced old o.targets.entries → (order : Order) (r : Result Progress KernelFault) (new : KernelState)
       → StepsBy order m o old r new → Rests r new
   it_rests sound ranged placed InTurn r new s = turn_rests r new s
   it_rests sound ranged placed Directly r new s = direct_rests (serves_it m o sound ranged) placed r new s
+
+  pub none_writes : IsSound m → AllByRecursion InRange o.allowed → ArePlaced old o.targets.entries → (order : Order) (new : KernelState)
+      → WritesBy order m o old new → ⊥
+  none_writes sound ranged placed InTurn new s = let no : ⊥ = cc (turn_rests (Ok More) new s).0 in no
+  none_writes sound ranged placed Directly new (w, follows, is) = direct_holds (serves_it m o sound ranged) placed w follows

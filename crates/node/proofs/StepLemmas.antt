@@ -16,12 +16,13 @@ use Rattle.apply_plan.specs.Targets as plan
 use Rattle.apply_plan.specs.DueWrite.{HaveTargets}
 use Rattle.apply_plan.specs.Leaves.{KeepsRest}
 use Rattle.apply_plan.specs.Runs.{IsOpen}
+use Rattle.apply_plan.specs.Directed.{Serves}
 use Rattle.apply_plan.specs.Squeezes.{SqueezesOnlyStuck}
 use Rattle.machine.specs.Layout.{Layout}
 use Rattle.node.specs.declared.fault.NodeFault.{NodeFault}
 use Rattle.node.specs.declared.fault.NodeFault.TheVariants.{Busy, BadId, IdInUse, TooManyContainers, NoContainer, NotCreated, NotRunnable, BadSignal, NotLive, NotStopped, NoHandover, NoAnswer, NotFree, Config, Demand, Kernel}
 use Rattle.node.specs.declared.order.Order.{Order}
-use Rattle.node.specs.declared.order.Order.TheVariants.{Directly}
+use Rattle.node.specs.declared.order.Order.TheVariants.{InTurn, Directly}
 use Rattle.node.specs.declared.phase.Phase.{Phase}
 use Rattle.node.specs.declared.phase.Phase.TheVariants.{Settled, Unsettled}
 use Rattle.node.specs.NodeState.{Ongoing, NodeState, is_underway}
@@ -33,7 +34,7 @@ use Rattle.node.specs.IsNode.{IsHome, IsShallow, IsPlaced, IsFirst, Holds, IsNod
 use Rattle.node.specs.Leaves.{rise_of}
 use Rattle.node.specs.Rebalance.{Stepped, StepsOn, Writes}
 use Rattle.node.proofs.ListLemmas.{all_map}
-use Rattle.node.proofs.OrderLemmas.{StepLeft, WriteLeft, OrdersLeave}
+use Rattle.node.proofs.OrderLemmas.{StepLeft, WriteLeft, OrdersLeave, serves_it}
 use Rattle.node.proofs.HoldsLemmas.{same_owned}
 use Rattle.node.proofs.OngoingLemmas.{of_entries, entries_safe, owners_safe, same_of, none_open}
 use Rattle.node.proofs.LaunchLemmas.{Stays, child_differs, is_there}
@@ -137,6 +138,11 @@ its_steps old o was new r phase ongoing s = subst (λ (x : Ongoing). StepsBy x.o
 pub its_writes : (old : NodeState) (o : Ongoing) → old.ongoing ≡ Some o → (new : NodeState) → Writes old new → WritesBy o.order old.machine o old.kernel new.kernel
 its_writes old o was new s = subst (λ (x : Ongoing). WritesBy x.order old.machine x old.kernel new.kernel) (same_Some s.handover o (sym s.was ∙ was)) s.writes
 
+-- in turn it is a step after which more are to come
+pub turn_step : (order : Order) → order ≡ InTurn → (m : Layout) (o : Ongoing) (old new : KernelState) → WritesBy order m o old new → StepsBy order m o old (Ok More) new
+turn_step InTurn is m o old new s = s
+turn_step Directly is m o old new s = absurd (let no : ⊥ = cc is in no)
+
 -- the same of what it answered
 pub answered : (order : Order) (m : Layout) (o : Ongoing) (old new : KernelState) (p q : Progress) → p ≡ q → StepsBy order m o old (Ok p) new
     → StepsBy order m o old (Ok q) new
@@ -159,6 +165,16 @@ module _ (law : OrdersLeave) (n : NodeState) (h : IsNode n) (o : Ongoing) (was :
 
   pub open_now : IsOpen o.targets n.kernel
   open_now = is_open n.parent Owners n.kernel h.holds o stands.1
+
+  -- what its containers request is safe
+  pub safe_now : IsSafe n.kernel o.targets.reserved (holders_of o.targets.entries)
+  safe_now =
+      subst (λ s. IsSafe n.kernel s (holders_of o.targets.entries)) (sym stands.1.reserved)
+      (entries_safe n.kernel n.kernel.reserved o.targets.entries Owners stands.1.of h.holds.safe)
+
+  -- the machine's places serve it
+  pub served_now : Serves (directed_of o) (least_cores n.machine)
+  served_now = serves_it n.machine o h.layout.sound stands.1.ranged
 
   -- the hand-over stays open
   node_at : (new : KernelState) → Moved n.parent Owners o n.kernel new → IsNode (record n { kernel = new })

@@ -14,7 +14,7 @@ use Rattle.node.specs.NodeState.{NodeState}
 use Rattle.node.specs.IsNode.{IsNode}
 use Rattle.node.specs.Rows.{as_cpus, requested_by}
 use Rattle.node.specs.Entries.{Target, plan_targets}
-use Rattle.node.specs.Rebalance.{StepsMore, Ends, Moves}
+use Rattle.node.specs.Rebalance.{WritesMany, Ends, Moves}
 
 -- a write before others, where one is due
 abbrev pub before : Option Write → List Write → List Write
@@ -26,16 +26,16 @@ abbrev pub last_write : (old : NodeState) (r : Result (Unit {0}) KernelFault) (n
 last_write old (Ok done) new s = before (due s.handover.targets old.kernel) []
 last_write old (Err fault) new s = before (due s.handover.targets old.kernel) []
 
--- those of steps after which more are to come, before others: in the order in which the kernel is asked for them
-abbrev pub writes_of_steps : (count : ℕ) (old new : NodeState) → StepsMore count old new → List Write → List Write
-writes_of_steps zero old new more later = later
-writes_of_steps (suc count) old new more later =
-    before (due more.1.handover.targets old.kernel) (writes_of_steps count more.0 new more.2 later)
+-- those before it, in turn, before others: in the order in which the kernel is asked for them
+abbrev pub writes_of_many : (count : ℕ) (old new : NodeState) → WritesMany count old new → List Write → List Write
+writes_of_many zero old new more later = later
+writes_of_many (suc count) old new more later =
+    before (due more.1.handover.targets old.kernel) (writes_of_many count more.0 new more.2 later)
 
 -- those of a hand-over to a plan in turn, from `begin` on, which asks for none
 abbrev pub writes_of_moves : (old : NodeState) (total : ℕ) (r : Result (Unit {0}) KernelFault) (new : NodeState) → Moves InTurn old total r new → List Write
 writes_of_moves old total r new m =
-    writes_of_steps m.finishes.steps m.mid m.finishes.mid m.finishes.more (last_write m.finishes.mid r new m.finishes.ends)
+    writes_of_many m.finishes.count m.mid m.finishes.mid m.finishes.writes (last_write m.finishes.mid r new m.finishes.ends)
 
 -- how many of the writes are of this group
 abbrev pub times_written : Group → List Write → ℕ

@@ -50,8 +50,8 @@ abbrev pub effective_sets : KernelState → List (List ℕ × ContainerState) �
 effective_sets k [] = []
 effective_sets k (e ∷ later) = cond (is_asking k e) (effective k e ∷ effective_sets k later) (effective_sets k later)
 
--- after a plan of this total. Each live container has exactly the CPUs that it asked for, all allowed and none shared. A
--- pinned one has of each core all or none. What they have is the best that they could have, at this distance to the home
+-- after a plan of this total. Each live pinned container has exactly the CPUs that it asked for, all allowed and none shared,
+-- of each core all or none; a shared one has the pool. What they have is the best that they could have, at this distance to the home
 -- nodes. The pool is the online CPUs that are in none of these sets. The same containers live as before.
 pub record IsRebalanced (old : NodeState) (total : ℕ) (new : NodeState) : Type 0 where
   pub served : AllByRecursion (IsServed new.kernel new.machine new.pool) new.containers
@@ -73,8 +73,8 @@ pub record AreShort (old : NodeState) (members : List ℕ) (wanted : ℕ) (allow
   pub has : (cpu : ℕ) → set.contains allowed cpu ≡ list_any (is_allowed old.kernel old.machine cpu) (filter_map (slice_get (asking old)) members)
   pub more : set.len allowed < wanted
 
--- after a shortage: some are short, so that no sets at all would do for the live pinned containers; all is as before but for
--- what was worked out last
+-- after a shortage: some are short, so that no sets of whole cores would do for the live pinned containers; all is as before
+-- but for what was worked out last
 pub record IsShort (old : NodeState) (wanted : ℕ) (allowed : Ids) (new : NodeState) : Type 0 where
   pub members : List ℕ
   pub short : AreShort old members wanted allowed

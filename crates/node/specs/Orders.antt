@@ -1,5 +1,5 @@
 -- What a step of a hand-over is in each order, and what it leaves to do.
-use Rattle.std.specs.Prelude.{◌≡◌, ℕ, zero, suc, ◌+◌, ◌≤◌, Some, Result, Ok}
+use Rattle.std.specs.Prelude.{◌≡◌, ℕ, ◌+◌, ◌≤◌, Some, Result, Ok}
 use Rattle.kernel_model.specs.declared.KernelFault.{KernelFault}
 use Rattle.kernel_model.specs.KernelState.{KernelState}
 use Rattle.machine.specs.Layout.{Layout}
@@ -8,11 +8,11 @@ use Rattle.apply_plan.specs.declared.Progress.TheVariants.{More}
 use Rattle.apply_plan.specs.Targets.{Targets}
 use Rattle.apply_plan.specs.declared.scan.Write.{Write}
 use Rattle.apply_plan.specs.DueWrite.{Steps, written, writes_to_come, made_by_step}
-use Rattle.apply_plan.specs.Finishes.{last_answer}
+use Rattle.apply_plan.specs.Finishes as turn
 use Rattle.apply_plan.specs.MayWrite.{left_directly}
 use Rattle.apply_plan.specs.Directed.{Directed}
 use Rattle.apply_plan.specs.DirectWrite.{StepsDirectly, made_directly}
-use Rattle.direct_finish.specs.FinishesDirectly.{MayFollow}
+use Rattle.direct_finish.specs.FinishesDirectly.{MayFollow, FinishesDirectly}
 use Rattle.node.specs.declared.order.Order.{Order}
 use Rattle.node.specs.declared.order.Order.TheVariants.{InTurn, Directly}
 use Rattle.node.specs.NodeState.{Ongoing}
@@ -33,17 +33,10 @@ abbrev pub WritesBy : Order → Layout → Ongoing → KernelState → KernelSta
 WritesBy InTurn m o old new = Steps o.targets old (Ok More) new
 WritesBy Directly m o old new = (w : Write) × MayFollow (directed_of o) (least_cores m) old w × (new ≡ written old (Some w))
 
--- so many of them, one after another
-abbrev pub WritesManyBy : Order → Layout → Ongoing → ℕ → KernelState → KernelState → Type 0
-WritesManyBy order m o zero old new = new ≡ old
-WritesManyBy order m o (suc n) old new = (mid : KernelState) × WritesBy order m o old mid × WritesManyBy order m o n mid new
-
--- all of them, and the step that ends the hand-over
-pub record FinishesBy (order : Order) (m : Layout) (o : Ongoing) (old : KernelState) (r : Result (Unit {0}) KernelFault) (new : KernelState) : Type 0 where
-  pub count : ℕ
-  pub mid : KernelState
-  pub writes : WritesManyBy order m o count old mid
-  pub ends : StepsBy order m o mid (last_answer r) new
+-- all writes of a hand-over that are made at once: in turn those of steps; directly any of which each is such a write
+abbrev pub FinishesBy : Order → Layout → Ongoing → KernelState → Result (Unit {0}) KernelFault → KernelState → Type 0
+FinishesBy InTurn m o old r new = turn.Finishes o.targets old r new
+FinishesBy Directly m o old r new = FinishesDirectly (directed_of o) (least_cores m) old r new
 
 -- how many writes are left; in the direct order, at most
 abbrev pub left_by : Order → Targets → KernelState → ℕ

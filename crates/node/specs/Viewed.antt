@@ -25,17 +25,17 @@ all_seen entries = map entry_seen entries
 -- the containers of a hand-over with what they are to have
 abbrev pub targets_seen : Course → Targets
 targets_seen (course.InTurn h) = h
-targets_seen (course.Directly d) = d.targets
+targets_seen (course.Directly d agenda) = d.targets
 
 -- its order
 abbrev pub order_seen : Course → Order
 order_seen (course.InTurn h) = InTurn
-order_seen (course.Directly d) = Directly
+order_seen (course.Directly d agenda) = Directly
 
 -- what each of its containers is allowed, where the order asks for it
 abbrev pub allowed_seen : Course → List Ids
 allowed_seen (course.InTurn h) = []
-allowed_seen (course.Directly d) = d.allowed
+allowed_seen (course.Directly d agenda) = d.allowed
 
 -- a hand-over as a plain value, whose groups requested these sets at first
 abbrev pub seen_by : Course → List Ids → Ongoing

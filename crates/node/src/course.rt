@@ -1,14 +1,14 @@
 //! A hand-over in the order in which it was begun.
 ghost use Rattle.std.specs.Prelude.{◌≡◌, List};
 ghost use Rattle.cpu_set.specs.Ids.{Ids};
-ghost use Rattle.apply_plan.specs.Targets.{ArePlaced};
-ghost use Rattle.node.specs.NodeState.{Ongoing};
-ghost use Rattle.node.specs.Orders.{directed_of, StepsBy, AllStepsBy};
+ghost use Rattle.apply_plan.specs.Holders.{IsSafe};
+ghost use Rattle.apply_plan.specs.Targets.{holders_of, ArePlaced};
+ghost use Rattle.node.specs.Orders.{StepsBy, FinishesBy};
 ghost use Rattle.node.specs.Viewed.{targets_seen, order_seen, seen_by};
-ghost use Rattle.node.specs.declared.order.Order.TheVariants.{Directly};
 
 use crate::places::PlaceCores;
 use apply_plan::{DirectHandover, Handover, Progress};
+use direct_finish::{Agenda, finish_directly};
 use kernel_model::{Kernel, KernelFault};
 use machine::Machine;
 
@@ -17,28 +17,8 @@ use machine::Machine;
 pub enum Course {
     /// All let go first.
     InTurn(Handover),
-    /// Each as directly as it can.
-    Directly(DirectHandover),
-}
-
-/// Makes all writes of a direct hand-over, step by step, up to the first that fails.
-fn finish_directly<K: Kernel>(
-    handover: &mut DirectHandover,
-    kernel: &mut K,
-    machine: &Machine,
-) -> Result<(), KernelFault>
-    requires { ArePlaced (K.state kernel.old) handover.old.targets.entries }
-    ensures same { handover.new ≡ handover.old }
-    ensures steps { (o : Ongoing) → directed_of o ≡ handover.old
-        → AllStepsBy Directly machine.now o (K.state kernel.old) result (K.state kernel.new) }
-{
-    let cores = PlaceCores { machine };
-    'steps: loop {
-        match handover.step(kernel, &cores)? {
-            Progress::More => {}
-            Progress::Done => return Ok(()),
-        }
-    }
+    /// Each as directly as it can. Beside it is room to note whom to try next, where all writes are made at once.
+    Directly(DirectHandover, Agenda),
 }
 
 impl Course {
@@ -55,7 +35,7 @@ impl Course {
     {
         match self {
             Course::InTurn(handover) => handover.step(kernel),
-            Course::Directly(handover) => handover.step(kernel, &PlaceCores { machine }),
+            Course::Directly(handover, _) => handover.step(kernel, &PlaceCores { machine }),
         }
     }
 
@@ -65,13 +45,16 @@ impl Course {
         kernel: &mut K,
         machine: &Machine,
     ) -> Result<(), KernelFault>
-        requires { ArePlaced (K.state kernel.old) (targets_seen self.old).entries }
-        ensures { (found : List Ids) → AllStepsBy (order_seen self.old) machine.now (seen_by self.old found)
+        requires placed { ArePlaced (K.state kernel.old) (targets_seen self.old).entries }
+        requires safe { IsSafe (K.state kernel.old) (targets_seen self.old).reserved (holders_of (targets_seen self.old).entries) }
+        ensures { (found : List Ids) → FinishesBy (order_seen self.old) machine.now (seen_by self.old found)
             (K.state kernel.old) result (K.state kernel.new) }
     {
         match self {
             Course::InTurn(handover) => handover.finish(kernel),
-            Course::Directly(handover) => finish_directly(handover, kernel, machine),
+            Course::Directly(handover, agenda) => {
+                finish_directly(handover, kernel, &PlaceCores { machine }, agenda)
+            }
         }
     }
 }

@@ -20,6 +20,7 @@ use crate::{Node, Order};
 use apply_plan::{DirectHandover, Entry, Handover};
 use cpu_set::IdSet;
 use demand::Kind;
+use direct_finish::Agenda;
 use indexmap::IndexMap;
 use kernel_model::{Kernel, requested};
 use machine::Machine;
@@ -195,8 +196,9 @@ impl<K: Kernel + Drop> Node<K> {
             Order::InTurn => Ok(Course::InTurn(Handover::new(entries, reserved))),
             Order::Directly => {
                 let allowed = allowed_in(self.alloc, &self.kernel, &self.containers)?;
+                let agenda = Agenda::new(self.alloc, entries.len())?;
                 let handover = DirectHandover::new(self.alloc, entries, allowed, reserved)?;
-                Ok(Course::Directly(handover))
+                Ok(Course::Directly(handover, agenda))
             }
         }
     }

@@ -250,7 +250,8 @@ impl<K: Kernel + Drop> Node<K> {
     /// break): each gets its CPUs as soon as no rival has any of them. It runs on the reserved CPUs on its way only if
     /// it stands in a ring of containers that wait for each other, in which nobody can give way otherwise.
     ///
-    /// It makes single steps, of which each looks all containers through. All memory is taken before the first write.
+    /// It looks all containers through a few times, and once more for each ring. All memory is taken before the first
+    /// write.
     ///
     /// # Errors
     /// Those of `rebalance`; after `Failed` each container requests none but CPUs that it requested before, of what the
@@ -263,7 +264,8 @@ impl<K: Kernel + Drop> Node<K> {
         // If a write failed, each container requests what it may on its way. Nothing else changed in the kernel but its
         // counts, and the hand-over is over. The plan was as good as that of `begin`, and the certificate tells it.
         ensures broken { BreaksOff Directly self.old result self.new }
-        // It is `begin_directly`, and single steps until the hand-over ends. `Busy` and an allocation failure change
+        // It is `begin_directly`, and single writes until the hand-over ends. By each a container takes its CPUs, of
+        // which no rival has any, or it is the one that a single step makes. `Busy` and an allocation failure change
         // nothing.
         ensures rebalances { Rebalances Directly self.old result self.new }
         ensures counted { self.new.kernel.failures ≡ self.old.kernel.failures + rise_or_memory result }

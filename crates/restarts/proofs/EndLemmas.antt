@@ -35,17 +35,17 @@ use Rattle.node.specs.Owners.{is_pinned, owner_of, owners_of}
 use Rattle.node.specs.Status.{is_live}
 use Rattle.node.specs.IsNode.{IsMachine, HaveOtherIds, IsAsked, IsNode}
 use Rattle.node.specs.Ongoing.{Stands}
-use Rattle.node.specs.Orders.{StepsBy}
+use Rattle.node.specs.Orders.{StepsBy, WritesBy}
 use Rattle.node.specs.Best.{AreOwn, asking, wanted_by}
 use Rattle.node.specs.Rows.{as_cpus}
 use Rattle.node.specs.Entries.{plan_pool, opened}
 use Rattle.node.specs.MayRequest.{MayRequest}
 use Rattle.node.specs.Updates.{Updates, update_states}
 use Rattle.node.specs.Calls.{Places, Ended, Kills, Removed, Deletes}
-use Rattle.node.specs.Rebalance.{Begun, Begins, StepsOn, Stepped, Moves, Rebalances}
+use Rattle.node.specs.Rebalance.{Begun, Begins, StepsOn, Stepped, Writes, Moves, Rebalances}
 use Rattle.node.specs.Making.{IsOneCall, AreCalls, place_states, PlacesAreCalls, PlacesStaySafe, UpdatesAreCalls, UpdatesStaySafe}
 use Rattle.node.specs.Making.IsOneCall.{Makes, Cpus, Mems, Process}
-use Rattle.node.specs.Machine.{Event, Create, Adopt, Update, Start, Kill, Delete, Rebalance, Begin, StepOn, Ask, Fork, Exit, Offline, Online, InKernel, Step, Run, RunsKeep, RebalancesAreSteps, IsOneStep}
+use Rattle.node.specs.Machine.{Event, Create, Adopt, Update, Start, Kill, Delete, Rebalance, Begin, StepOn, WriteOn, Ask, Fork, Exit, Offline, Online, InKernel, Step, Run, RunsKeep, RebalancesAreWrites, IsOneWrite}
 use Rattle.runtime.specs.declared.booting.TheConstants.{FIRST_PID}
 use Rattle.runtime.specs.Boots.{Boots, BootsNodes}
 use Rattle.restarts.specs.Left.{Left, left_of, left_in, IsLeft, AreApart, AreLeft, IsAmong}
@@ -54,7 +54,7 @@ use Rattle.restarts.specs.Ends.MayEnd.{Between, InPlace, InUpdate}
 use Rattle.restarts.specs.Restarts.{Leaves, RestartsGoOn}
 use Rattle.restarts.specs.Restarts.Leaves.{Once, Halfway, Again}
 use Rattle.restarts.proofs.AmongLemmas.{all_among, Entries}
-use Rattle.restarts.proofs.ThereLemmas.{IsThere, AllThere, TargetThere, tree_same, removed, launch_there, launch_states_there, rewrites_there, rewrite_states_there, step_there, less_of, targets_there, first_there_is, opened_there}
+use Rattle.restarts.proofs.ThereLemmas.{IsThere, AllThere, TargetThere, tree_same, removed, launch_there, launch_states_there, rewrites_there, rewrite_states_there, step_there, write_there, less_of, targets_there, first_there_is, opened_there}
 
 -- what is known of a node between two calls: its hand-over has targets of the machine alone, and so are all requests
 pub record Known (m : Layout) (n : NodeState) : Type 0 where
@@ -220,20 +220,31 @@ module _ (m : Layout) (layout : IsMachine m) (keep : RunsKeep) where
   step_known old new (Err NoHandover) h node same = as_before old new h same.1
   step_known old new (Err fault) h node none = absurd none
 
-  -- steps alone, and a rebalance
-  steps_known : (steps : List Event) (old new : NodeState) → AllByRecursion IsOneStep steps → Known m old → Run old steps new → Known m new
-  steps_known [] old new only h run = as_before old new h run
-  steps_known (StepOn answer ∷ steps) old new only h (mid, step, run) =
-      steps_known steps mid new only.1 (step_known old mid answer h (kept old mid (StepOn answer) h step) step) run
-  steps_known (event ∷ steps) old new only h run = absurd only.0
+  -- one of the writes that are made all at once
+  write_known : (old new : NodeState) → Known m old → IsNode new → Writes old new → Known m new
+  write_known old new h node s = goes_on old new h node (ap machine_of s.is) all (ap ongoing_of s.is) where
+    all : AllThere m new.kernel
+    all = write_there m s.handover.order s.handover old.kernel new.kernel layout.sound
+        (subst (IsThere m) (sym (open_reserved old h s.handover s.was)) reserved_there) (online_there old h)
+        (subst (λ (o : Option Ongoing). IfSome o (λ x. AllByRecursion (TargetThere m) x.targets.entries)) s.was h.ongoing)
+        (subst (λ (x : Layout). WritesBy s.handover.order x s.handover old.kernel new.kernel) h.machine s.writes) h.all
 
-  moves_known : RebalancesAreSteps → (order : Order) (old new : NodeState) (total : ℕ) (r : Result (Unit {0}) KernelFault) → Known m old → Moves order old total r new → Known m new
+  -- writes and steps alone, and a rebalance
+  writes_known : (writes : List Event) (old new : NodeState) → AllByRecursion IsOneWrite writes → Known m old → Run old writes new → Known m new
+  writes_known [] old new only h run = as_before old new h run
+  writes_known (StepOn answer ∷ writes) old new only h (mid, step, run) =
+      writes_known writes mid new only.1 (step_known old mid answer h (kept old mid (StepOn answer) h step) step) run
+  writes_known (WriteOn ∷ writes) old new only h (mid, step, run) =
+      writes_known writes mid new only.1 (write_known old mid h (kept old mid WriteOn h step) step) run
+  writes_known (event ∷ writes) old new only h run = absurd only.0
+
+  moves_known : RebalancesAreWrites → (order : Order) (old new : NodeState) (total : ℕ) (r : Result (Unit {0}) KernelFault) → Known m old → Moves order old total r new → Known m new
   moves_known single order old new total r h moves =
       let by = single order old total r new moves in
-      steps_known by.0 by.2.0 new by.1
+      writes_known by.0 by.2.0 new by.1
       (begin_known order old by.2.0 (Ok (Plan total)) h (kept old by.2.0 (Begin order (Ok (Plan total))) h by.2.1) by.2.1) by.2.2
 
-  rebalance_known : RebalancesAreSteps → (order : Order) (old new : NodeState) (r : Result Outcome (OrMemory NodeFault)) → Known m old → IsNode new → Rebalances order old r new → Known m new
+  rebalance_known : RebalancesAreWrites → (order : Order) (old new : NodeState) (r : Result Outcome (OrMemory NodeFault)) → Known m old → IsNode new → Rebalances order old r new → Known m new
   rebalance_known single order old new (Ok (Plan total)) h node moves = moves_known single order old new total (Ok tt) h moves
   rebalance_known single order old new (Ok (Short wanted allowed)) h node l = same_kernel old new h node (ap machine_of l.is) (ap kernel_of l.is) (ap ongoing_of l.is)
   rebalance_known single order old new (Err (Fault (Kernel fault))) h node (total, moves) = moves_known single order old new total (Err fault) h moves
@@ -246,7 +257,7 @@ module _ (m : Layout) (layout : IsMachine m) (keep : RunsKeep) where
   in_kernel old new h node groups is =
       goes_on old new h node (ap machine_of is) (λ g. subst (IsThere m) (sym (ap (λ gs. cpus_in (entry_among gs g)) groups)) (h.all g)) (ap ongoing_of is)
 
-  one_known : RebalancesAreSteps → (event : Event) (old new : NodeState) → Known m old → IsNode new → Step old event new → Known m new
+  one_known : RebalancesAreWrites → (event : Event) (old new : NodeState) → Known m old → IsNode new → Step old event new → Known m new
   one_known single (Create id bundle config r) old new h node step = place_known old new old.machine.reserved id bundle config r h node step
   one_known single (Adopt id bundle config cpus r) old new h node step = place_known old new cpus id bundle config r h node step
   one_known single (Update id bundle config r) old new h node step = update_known old new id bundle config r h node step
@@ -272,13 +283,14 @@ module _ (m : Layout) (layout : IsMachine m) (keep : RunsKeep) where
   one_known single (Rebalance order r) old new h node step = rebalance_known single order old new r h node step
   one_known single (Begin order r) old new h node step = begin_known order old new r h node step
   one_known single (StepOn r) old new h node step = step_known old new r h node step
+  one_known single WriteOn old new h node step = write_known old new h node step
   one_known single (Ask question) old new h node step = as_before old new h step.1
   one_known single (Fork pid r) old new h node step = in_kernel old new h node (events_keep_groups.fork old.kernel new.kernel pid r step.0).0.groups step.1
   one_known single (Exit pid r) old new h node step = in_kernel old new h node (events_keep_groups.exit old.kernel new.kernel pid r step.0).0.groups step.1
   one_known single (Offline cpu r) old new h node step = in_kernel old new h node (events_keep_groups.offline old.kernel new.kernel cpu r step.0).0.groups step.1
   one_known single (Online cpu r) old new h node step = in_kernel old new h node (events_keep_groups.online old.kernel new.kernel cpu r step.0).0.groups step.1
 
-  run_known : RebalancesAreSteps → (events : List Event) (old new : NodeState) → Known m old → Run old events new → Known m new
+  run_known : RebalancesAreWrites → (events : List Event) (old new : NodeState) → Known m old → Run old events new → Known m new
   run_known single [] old new h run = as_before old new h run
   run_known single (event ∷ events) old new h (mid, step, run) =
       run_known single events mid new (one_known single event old mid h (kept old mid event h step) step) run
@@ -365,7 +377,7 @@ module _ (m : Layout) (layout : IsMachine m) (keep : RunsKeep) where
   left_there : (n : NodeState) → Known m n → AreLeft m (left_in n.kernel n.containers)
   left_there n h = all_left n.kernel h.all (h.node.machine.reserved ∙ ap (λ (x : Layout). x.reserved) h.machine) n h.node h.machine h.node.holds.safe
 
-  module _ (single : RebalancesAreSteps) (place_calls : PlacesAreCalls) (place_safe : PlacesStaySafe) (update_calls : UpdatesAreCalls) (update_safe : UpdatesStaySafe) where
+  module _ (single : RebalancesAreWrites) (place_calls : PlacesAreCalls) (place_safe : PlacesStaySafe) (update_calls : UpdatesAreCalls) (update_safe : UpdatesStaySafe) where
     in_place : (old new : NodeState) (cpus : Ids) (id bundle config : List ℕ) (r : Result ℕ (OrMemory NodeFault)) (made : Places cpus old id bundle config r new) (k : KernelState)
         → Known m old → IsAmong (place_states cpus old id bundle config r new made) k → AreLeft m (left_in k new.containers)
     in_place old new cpus id bundle config r made k h among =
@@ -408,7 +420,7 @@ module _ (m : Layout) (layout : IsMachine m) (keep : RunsKeep) where
         known_ends taken k containers (run_known single tries t.first taken (first_known nodes t.first t.boots) t.run) ends
 
 -- the laws
-module _ (keep : RunsKeep) (single : RebalancesAreSteps) (place_calls : PlacesAreCalls) (place_safe : PlacesStaySafe) (update_calls : UpdatesAreCalls)
+module _ (keep : RunsKeep) (single : RebalancesAreWrites) (place_calls : PlacesAreCalls) (place_safe : PlacesStaySafe) (update_calls : UpdatesAreCalls)
     (update_safe : UpdatesStaySafe) (nodes : BootsNodes) where
   pub ends_are_left : EndsAreLeft
   ends_are_left m first k containers layout boots ends =

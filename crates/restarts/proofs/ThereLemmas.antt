@@ -36,11 +36,12 @@ use Rattle.apply_plan.specs.Kept.{kept, within}
 use Rattle.apply_plan.specs.ListLemmas.{find_among}
 use Rattle.apply_plan.specs.SetMemberLaws.{in_meet, in_minus, in_union}
 use Rattle.apply_plan.specs.DirectLemmas.{both_of}
-use Rattle.apply_plan.specs.DueWrite.{held, must_release, must_move, first_write, due_write, written}
+use Rattle.apply_plan.specs.declared.Progress.TheVariants.{More}
+use Rattle.apply_plan.specs.DueWrite.{held, must_release, must_move, first_write, due_write, written, progress_of}
 use Rattle.apply_plan.specs.DirectWords.{may_take, places, spare, way, asked as asked_of, taken, all_of_those}
 use Rattle.apply_plan.specs.MayWrite.{write_of}
 use Rattle.apply_plan.specs.Directed.{Least, allowed_of}
-use Rattle.apply_plan.specs.DirectWrite.{is_new, is_mover, is_grower, must_yield, shares, steps_aside, shared_way, aside, squeezed, lacks, has_room, gets, first_due, direct_write}
+use Rattle.apply_plan.specs.DirectWrite.{is_new, is_mover, is_grower, must_yield, shares, steps_aside, shared_way, aside, squeezed, lacks, has_room, gets, first_due, direct_write, due_directly}
 use Rattle.node.specs.declared.order.Order.{Order}
 use Rattle.node.specs.declared.order.Order.TheVariants.{InTurn, Directly}
 use Rattle.node.specs.Entries.{targets_in, entry_of as entry_of_target}
@@ -48,7 +49,7 @@ use Rattle.node.specs.LeastCores.{count_below, first_of, least_cores}
 use Rattle.node.specs.NodeState.{ContainerState, Ongoing}
 use Rattle.node.specs.Owners.{is_pinned}
 use Rattle.node.specs.Status.{is_live}
-use Rattle.node.specs.Orders.{directed_of, StepsBy}
+use Rattle.node.specs.Orders.{directed_of, StepsBy, WritesBy}
 use Rattle.node.specs.Launch.{AtOnce, FindsOr, FindsOrMakes, WritesSets, StartsIn, Launches}
 use Rattle.node.specs.Making.{found_states, set_states, set_states_at_once, start_states, launch_states}
 use Rattle.node.specs.Updates.{MadeIf, gives_way, moves_home, Rewrites, made_states, rewrite_states}
@@ -347,6 +348,16 @@ module _ (m : Layout) where
       (some_written old (direct_write old o.targets.reserved o.targets.entries (allowed_of (directed_of o)) (least_cores m))
       (direct_there old o.targets.reserved o.targets.entries res online h all (least_cores m) (least_within sound) (allowed_of (directed_of o))) h)
   step_there Directly o old new (Err fault) sound res online all steps h = tree_same old new (ap (λ (k : KernelState). k.tree) steps.1) h
+
+  -- the same of one of the writes that are made all at once
+  pub write_there : (order : Order) (o : Ongoing) (old new : KernelState) → IsSound m → IsThere m o.targets.reserved
+      → IsThere m old.tree.online → AllByRecursion TargetThere o.targets.entries → WritesBy order m o old new → AllThere m old → AllThere m new
+  write_there InTurn o old new sound res online all s h = step_there InTurn o old new (Ok More) sound res online all s h
+  write_there Directly o old new sound res online all (w, inl t, is) h =
+      let own : IsThere m t.e.target = find_among t.test TargetThere o.targets.entries t.e all t.found in
+      subst (AllThere m) (sym is) (some_written old (Some w) (subst (λ (x : Write). IsThere m x.cpus) (sym t.is) own) h)
+  write_there Directly o old new sound res online all (w, inr due, is) h =
+      step_there Directly o old new (Ok (progress_of (due_directly (directed_of o) (least_cores m) new))) sound res online all (is ∙ ap (written old) (sym due), refl) h
 
   -- what a plan gives
   pub less_of : (sets : List Ids) (online : Ids) → IsThere m online → IsThere m (fold set.difference online sets)

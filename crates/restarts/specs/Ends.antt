@@ -17,7 +17,7 @@ use Rattle.restarts.specs.Left.{left_in, AreLeft, IsAmong}
 -- a run that began with this node ended in this state of the kernel, with these containers. It ended between two calls, or
 -- behind a single call of the kernel in the midst of a `create`, an `adopt` or an `update`. The container that was being made
 -- counts, and lives once its process does. Each other call makes one at most, and a `rebalance` is `begin` and then single
--- steps, so a run that ends in the midst of one ends between two of these.
+-- writes, so a run that ends in the midst of one ends between two of these.
 pub data MayEnd (first : NodeState) (k : KernelState) (containers : List (List ℕ × ContainerState)) : Type 0 where
   Between : (events : List Event) (n : NodeState) → Run first events n → k ≡ n.kernel → containers ≡ n.containers → MayEnd first k containers
   InPlace : (events : List Event) (old : NodeState) (cpus : Ids) (id bundle config : List ℕ) (r : Result ℕ (OrMemory NodeFault)) (new : NodeState)

@@ -154,6 +154,7 @@ module _ (keep : RunsKeep) (leaves : RunsRebalance) (last_proved : LastIsProved)
   told_more told old (Rebalance order answer) new node after s h = rebalance_told order told old new answer node after s h
   told_more told old (Begin order answer) new node after s h = begin_told order told old new answer node after s h
   told_more told old (StepOn answer) new node after s h = still_told told old new (step_last old new answer s) h
+  told_more told old WriteOn new node after s h = still_told told old new (ap (λ (n : NodeState). n.last) s.is) h
   told_more told old (Ask question) new node after s h = still_told told old new (ap (λ (n : NodeState). n.last) s.1) h
   told_more told old (Fork parent answer) new node after s h = still_told told old new (ap (λ (n : NodeState). n.last) s.1) h
   told_more told old (Exit pid answer) new node after s h = still_told told old new (ap (λ (n : NodeState). n.last) s.1) h

@@ -58,6 +58,7 @@ event_text new (Delete id answer) = answer_text done_line Node answer
 event_text new (Rebalance order answer) = answer_text (outcome_text new) of_either answer
 event_text new (Begin order answer) = answer_text (outcome_text new) of_either answer
 event_text new (StepOn answer) = answer_text progress_line Node answer
+event_text new WriteOn = []
 event_text new (Ask question) = question_text question
 event_text new (Fork parent answer) = answer_text pid_line of_kernel answer
 event_text new (Exit pid answer) = answer_text done_line of_kernel_fault answer

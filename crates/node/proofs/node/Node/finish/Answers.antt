@@ -2,13 +2,17 @@ use Rattle.std.proofs.Common.{sym, ap}
 use Rattle.std.specs.Prelude.{Ok, Err, option_map}
 use Rattle.node.proofs.OrderLemmas.{both_leave}
 use Rattle.node.specs.Viewed.{seen_ongoing}
-use Rattle.node.proofs.StepLemmas.{open_now}
+use Rattle.node.proofs.StepLemmas.{open_now, safe_now}
 use Rattle.node.proofs.FinishLemmas.{finished, finished_node}
 use Rattle.node.proofs.node.Node.finish.Goals as goal
 
 pub finish-requires : goal.finish-requires
 finish-requires g c =
-    (open_now both_leave _ c.self.invariant.node (seen_ongoing c.in-Some.ongoing) (sym (ap (option_map seen_ongoing) c.in-Some.ensures.value))).placed
+    let was = sym (ap (option_map seen_ongoing) c.in-Some.ensures.value) in
+    record {
+      placed = (open_now both_leave _ c.self.invariant.node (seen_ongoing c.in-Some.ongoing) was).placed;
+      safe = safe_now both_leave _ c.self.invariant.node (seen_ongoing c.in-Some.ongoing) was;
+    }
 
 pub invariant_of-self : goal.invariant_of-self
 invariant_of-self g c = record {
