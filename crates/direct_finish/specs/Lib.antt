@@ -8,3 +8,5 @@ pub mod TakeLemmas
 pub mod TurnLemmas
 pub mod FollowersLeave
 pub mod FollowerLemmas
+pub mod FinishesTold
+pub mod FinishesToldLemmas

@@ -13,7 +13,7 @@ use Rattle.cpuset_tree.specs.Groups.{same_group, requested_cpus}
 use Rattle.cpuset_tree.specs.GroupLemmas.{same_group_sym, same_group_itself}
 use Rattle.proctable.specs.Processes.{is_alive}
 use Rattle.kernel_model.specs.declared.KernelFault.{KernelFault}
-use Rattle.kernel_model.specs.KernelState.{KernelState}
+use Rattle.kernel_model.specs.KernelState.{KernelState, writes}
 use Rattle.apply_plan.specs.declared.Entry.{Entry}
 use Rattle.apply_plan.specs.declared.Progress.TheVariants.{More, Done}
 use Rattle.apply_plan.specs.declared.scan.Write.{Write}
@@ -45,7 +45,7 @@ use Rattle.node.proofs.HeadlineLemmas.{begun_node}
 use Rattle.node.proofs.OngoingLemmas.{entries_safe}
 use Rattle.node.proofs.OrderLemmas.{OrdersLeave}
 use Rattle.node.proofs.PlanLemmas.{opened_ongoing}
-use Rattle.node.proofs.StepLemmas.{its_steps, its_writes, turn_step, open_now, leaves, wrote_node}
+use Rattle.node.proofs.StepLemmas.{its_steps, its_writes, its_misses, turn_step, open_now, leaves, missed as missed_by, wrote_node}
 
 -- ---- one more write
 
@@ -156,10 +156,10 @@ module _ (h : Targets) (valid : IsHandover h) (old : KernelState) (placed : AreP
 -- ---- all steps
 
 -- the writes of steps: as many as the kernel counted, each of an entry, and no entry has more than it waits for
-pub record Little (o : Ongoing) (old : KernelState) (writes : List Write) (new : KernelState) : Type 0 where
-  pub all : new.writes ≡ old.writes + length writes
-  pub each : AllByRecursion (λ a. times_written a.group writes ≤ writes_of old o.targets.reserved a) o.targets.entries
-  pub others : (g : Group) → AllByRecursion (λ a. same_group a.group g ≡ false) o.targets.entries → times_written g writes ≡ 0
+pub record Little (o : Ongoing) (old : KernelState) (these : List Write) (new : KernelState) : Type 0 where
+  pub all : writes new ≡ writes old + length these
+  pub each : AllByRecursion (λ a. times_written a.group these ≤ writes_of old o.targets.reserved a) o.targets.entries
+  pub others : (g : Group) → AllByRecursion (λ a. same_group a.group g ≡ false) o.targets.entries → times_written g these ≡ 0
 
 module _ (law : OrdersLeave) (o : Ongoing) (in_turn : o.order ≡ InTurn) where
   module _ (old : NodeState) (h : IsNode old) (was : old.ongoing ≡ Some o) where
@@ -179,7 +179,7 @@ module _ (law : OrdersLeave) (o : Ongoing) (in_turn : o.order ≡ InTurn) where
     same_due x is = ap (λ (y : Ongoing). due y.targets old.kernel) (same_Some x o (sym is ∙ was))
 
     -- one write, and none after it
-    last_little : (d : Option Write) → d ≡ due o.targets old.kernel → (new : KernelState) → new.writes ≡ old.kernel.writes + made_by_step o.targets old.kernel
+    last_little : (d : Option Write) → d ≡ due o.targets old.kernel → (new : KernelState) → writes new ≡ writes old.kernel + made_by_step o.targets old.kernel
         → Little o old.kernel (before d []) new
     last_little d is new made = record {
       all = let long : length (before d []) ≡ cond (is_some d) 1 0 + 0 = length_before d [] in
@@ -200,7 +200,7 @@ module _ (law : OrdersLeave) (o : Ongoing) (in_turn : o.order ≡ InTurn) where
 
     -- one write before others
     first_little : (d : Option Write) → d ≡ due o.targets old.kernel → (mid : KernelState) → mid ≡ written old.kernel (due o.targets old.kernel)
-        → mid.writes ≡ old.kernel.writes + made_by_step o.targets old.kernel → (later : List Write) (new : KernelState) → Little o mid later new
+        → writes mid ≡ writes old.kernel + made_by_step o.targets old.kernel → (later : List Write) (new : KernelState) → Little o mid later new
         → Little o old.kernel (before d later) new
     first_little d is mid at made later new rest = record {
       all = let long : length (before d later) ≡ cond (is_some d) 1 0 + length later = length_before d later in
@@ -224,9 +224,9 @@ module _ (law : OrdersLeave) (o : Ongoing) (in_turn : o.order ≡ InTurn) where
     }
 
   -- how many writing calls a step in turn made
-  made_one : (old : NodeState) (new : KernelState) → new.writes ≡ old.kernel.writes + made_by o.order old.machine o old.kernel
-      → new.writes ≡ old.kernel.writes + made_by_step o.targets old.kernel
-  made_one old new made = subst (λ (order : Order). new.writes ≡ old.kernel.writes + made_by order old.machine o old.kernel) in_turn made
+  made_one : (old : NodeState) (new : KernelState) → writes new ≡ writes old.kernel + made_by o.order old.machine o old.kernel
+      → writes new ≡ writes old.kernel + made_by_step o.targets old.kernel
+  made_one old new made = subst (λ (order : Order). writes new ≡ writes old.kernel + made_by order old.machine o old.kernel) in_turn made
 
   -- the last step, by its answer
   ended_little : (old : NodeState) (h : IsNode old) (was : old.ongoing ≡ Some o) (r : Result (Unit {0}) KernelFault) (new : NodeState) (s : Ends old r new)
@@ -236,7 +236,7 @@ module _ (law : OrdersLeave) (o : Ongoing) (in_turn : o.order ≡ InTurn) where
       (made_one old new.kernel (leaves law old h o was new.kernel (Ok Done) (its_steps old o was new (Ok Done) Settled None s)).made)
   ended_little old h was (Err fault) new s =
       last_little old h was (due s.handover.targets old.kernel) (same_due old h was s.handover s.was) new.kernel
-      (made_one old new.kernel (leaves law old h o was new.kernel (Err fault) (its_steps old o was new (Err fault) Unsettled None s)).made)
+      (made_one old new.kernel (missed_by law old h o was fault new.kernel (its_misses old o was fault new s)).made)
 
   all_little : (count : ℕ) (old mid new : NodeState) → IsNode old → old.ongoing ≡ Some o → (more : WritesMany count old mid) (r : Result (Unit {0}) KernelFault)
       (ends : Ends mid r new) → Little o old.kernel (writes_of_many count old mid more (last_write mid r new ends)) new.kernel
@@ -306,7 +306,7 @@ kept_is_target reserved target cpus some sub apart = kept_some reserved target c
       ∙ one (set.contains cpus q) (set.contains target q) (set.contains reserved q) (is_subset-contains target cpus sub q)
       (λ gone in_reserved. apart q (contains-difference cpus target q ∙ gone) in_reserved))
 
-module _ (old : NodeState) (h : IsNode old) (sets : List Ids) (could : CouldHave old sets) (writes : List Write) where
+module _ (old : NodeState) (h : IsNode old) (sets : List Ids) (could : CouldHave old sets) (these : List Write) where
   -- a live one requests some CPUs, and is to have some
   record HasBoth (e : Entry) : Type 0 where
     target : is_empty e.target ≡ false
@@ -320,8 +320,8 @@ module _ (old : NodeState) (h : IsNode old) (sets : List Ids) (could : CouldHave
       (of_all_map holder_of (HasSome old.kernel (requested_cpus old.kernel.tree)) (plan_entries old sets)
       (entries_safe old.kernel old.kernel.reserved (plan_entries old sets) (owners_of old.containers) ongoing.of h.holds.safe).some)
 
-  one_little : (p : Target) → HasBoth (entry_of p) → times_written p.0.1.group writes ≤ writes_of old.kernel old.machine.reserved (entry_of p)
-      → IsLittleWritten old.kernel old.machine.reserved writes p
+  one_little : (p : Target) → HasBoth (entry_of p) → times_written p.0.1.group these ≤ writes_of old.kernel old.machine.reserved (entry_of p)
+      → IsLittleWritten old.kernel old.machine.reserved these p
   one_little p both most = record {
     stays = λ is. (let none : writes_of old.kernel old.machine.reserved (entry_of p) ≡ 0 = waits_none old.kernel old.machine.reserved (entry_of p) both.target is in omega (arith, most, none));
     grows = λ sub. (let one : writes_of old.kernel old.machine.reserved (entry_of p) ≤ 1 = grown sub (is_alive old.kernel.table p.0.1.pid) refl in omega (arith, most, one));
@@ -341,13 +341,13 @@ module _ (old : NodeState) (h : IsNode old) (sets : List Ids) (could : CouldHave
         (ap (λ a. a && not (is_same (held old.kernel (entry_of p)) p.1)) dead) in
         omega (arith, none)
 
-  pub writes_little : (new : NodeState) → Little (opened InTurn old sets) old.kernel writes new.kernel → WritesLittle old sets writes new
+  pub writes_little : (new : NodeState) → Little (opened InTurn old sets) old.kernel these new.kernel → WritesLittle old sets these new
   writes_little new l = record {
     all = l.all;
-    each = all_map2 (λ p. HasBoth (entry_of p)) (λ p. times_written p.0.1.group writes ≤ writes_of old.kernel old.machine.reserved (entry_of p))
-        (IsLittleWritten old.kernel old.machine.reserved writes) one_little (plan_targets old sets)
+    each = all_map2 (λ p. HasBoth (entry_of p)) (λ p. times_written p.0.1.group these ≤ writes_of old.kernel old.machine.reserved (entry_of p))
+        (IsLittleWritten old.kernel old.machine.reserved these) one_little (plan_targets old sets)
         (of_all_map entry_of HasBoth (plan_targets old sets) have_both)
-        (of_all_map entry_of (λ a. times_written a.group writes ≤ writes_of old.kernel old.machine.reserved a) (plan_targets old sets) l.each);
+        (of_all_map entry_of (λ a. times_written a.group these ≤ writes_of old.kernel old.machine.reserved a) (plan_targets old sets) l.each);
     others = λ g apart. l.others g (all_of_map entry_of (λ a. same_group a.group g ≡ false) (plan_targets old sets) apart);
   }
 
@@ -356,9 +356,9 @@ rebalances_write_little law old total r new h m =
     let b = m.begun in
     let sets : List Ids = as_cpus old.machine b.plan in
     let f = m.finishes in
-    let writes : List Write = writes_of_moves old total r new m in
+    let these : List Write = writes_of_moves old total r new m in
     let node : IsNode m.mid = begun_node InTurn old h total m.mid b in
-    let l : Little (opened InTurn old sets) m.mid.kernel writes new.kernel =
+    let l : Little (opened InTurn old sets) m.mid.kernel these new.kernel =
     all_little law (opened InTurn old sets) refl f.count m.mid f.mid new node (ap (λ (n : NodeState). n.ongoing) b.is) f.writes r f.ends in
-    writes_little old h sets b.best.could writes new
-    (subst (λ (k : KernelState). Little (opened InTurn old sets) k writes new.kernel) (ap (λ (n : NodeState). n.kernel) b.is) l)
+    writes_little old h sets b.best.could these new
+    (subst (λ (k : KernelState). Little (opened InTurn old sets) k these new.kernel) (ap (λ (n : NodeState). n.kernel) b.is) l)

@@ -22,12 +22,13 @@ use Rattle.node.specs.declared.fault.NodeFault.TheVariants.{Busy, BadId, IdInUse
 use Rattle.node.specs.declared.order.Order.{Order}
 use Rattle.node.specs.declared.outcome.Outcome.{Outcome}
 use Rattle.node.specs.declared.outcome.Outcome.TheVariants.{Plan, Short}
+use Rattle.node.specs.declared.phase.Phase.TheVariants.{Unsettled}
 use Rattle.node.specs.NodeState.{ContainerState, NodeState}
 use Rattle.node.specs.Updates.{Updates}
 use Rattle.node.specs.Calls.{Places, Starts, Kills, Deletes}
 use Rattle.node.specs.Rebalance.{Begins, StepsOn, WritesMany, Moves, Rebalances}
 use Rattle.node.specs.Machine.{Event, Step, Run}
-use Rattle.node.specs.Machine.Event.{Create, Adopt, Update, Start, Kill, Delete, Rebalance, Begin, StepOn, WriteOn, Ask, Fork, Exit, Offline, Online}
+use Rattle.node.specs.Machine.Event.{Create, Adopt, Update, Start, Kill, Delete, Rebalance, Begin, StepOn, WriteOn, MissOn, Ask, Fork, Exit, Offline, Online}
 use Rattle.node.specs.Said.{IsMadeOf, reads_for, IsAskedIn, IsSaid, ContainersAreSaid}
 use Rattle.node.proofs.ContainerLemmas.{split, all_started, each_left}
 use Rattle.node.proofs.ListLemmas.{all_push, all_map, pairs_push}
@@ -86,7 +87,7 @@ module _ (P : Layout → Entries → Type 0) where
       step_keeps m.finishes.mid new (Ok Done) m.finishes.ends
       (writes_keep m.finishes.count m.mid m.finishes.mid m.finishes.writes (begin_keeps order old m.mid (Ok (Plan total)) m.begun h))
   moves_keep order old new total (Err fault) m h =
-      step_keeps m.finishes.mid new (Err (Kernel fault)) m.finishes.ends
+      moved (record m.finishes.mid { kernel = new.kernel; phase = Unsettled; ongoing = None }) new m.finishes.ends.is
       (writes_keep m.finishes.count m.mid m.finishes.mid m.finishes.writes (begin_keeps order old m.mid (Ok (Plan total)) m.begun h))
 
   pub rebalance_keeps : (order : Order) (old new : NodeState) (r : Result Outcome (OrMemory NodeFault)) → Rebalances order old r new → Of old → Of new
@@ -410,6 +411,9 @@ module _ (done : List Event) (old new : NodeState) where
   event_said WriteOn s h =
       moved (SaidOf (done ++ WriteOn ∷ [])) (record old { kernel = new.kernel }) new s.is
       (none_more done WriteOn old (λ key. refl) h)
+  event_said (MissOn fault) s h =
+      moved (SaidOf (done ++ MissOn fault ∷ [])) (record old { kernel = new.kernel; phase = Unsettled; ongoing = None }) new s.is
+      (none_more done (MissOn fault) old (λ key. refl) h)
   event_said (Ask question) s h =
       moved (SaidOf (done ++ Ask question ∷ [])) old new s.1
       (none_more done (Ask question) old (λ key. refl) h)

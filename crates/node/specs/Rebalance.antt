@@ -32,7 +32,7 @@ use Rattle.node.specs.IsNode.{IsKept}
 use Rattle.node.specs.Rows.{as_cpus, rows_of, scaled_rows_of, planned, lacking}
 use Rattle.node.specs.Best.{moved, IsBest}
 use Rattle.node.specs.Entries.{plan_pool, opened}
-use Rattle.node.specs.Orders.{StepsBy, WritesBy}
+use Rattle.node.specs.Orders.{StepsBy, WritesBy, MissesBy}
 
 -- what a node's scaled rows come to as a plan of cores. Their CPUs are the best sets that the containers could have. It is a
 -- least plan of these rows, with the cores' distance and their moves as its total.
@@ -127,12 +127,19 @@ abbrev pub WritesMany : ℕ → NodeState → NodeState → Type 0
 WritesMany zero old new = new ≡ old
 WritesMany (suc n) old new = (mid : NodeState) × Writes old mid × WritesMany n mid new
 
--- the step that ends a hand-over
+-- one of them that fails, by which the hand-over ends
+pub record Misses (old : NodeState) (fault : KernelFault) (new : NodeState) : Type 0 where
+  pub handover : Ongoing
+  pub was : old.ongoing ≡ Some handover
+  pub misses : MissesBy handover.order old.machine handover old.kernel fault new.kernel
+  pub is : new ≡ record old { kernel = new.kernel; phase = Unsettled; ongoing = None }
+
+-- what ends a hand-over whose writes are made at once: a step that finds no more to come, or a write that fails
 abbrev pub Ends : NodeState → Result (Unit {0}) KernelFault → NodeState → Type 0
 Ends old (Ok done) new = StepsOn old (Ok Done) new
-Ends old (Err fault) new = StepsOn old (Err (Kernel fault)) new
+Ends old (Err fault) new = Misses old fault new
 
--- the writes of the open hand-over, and the step that ends it
+-- the writes of the open hand-over, and what ends it
 pub record Finishes (old : NodeState) (r : Result (Unit {0}) KernelFault) (new : NodeState) : Type 0 where
   pub count : ℕ
   pub mid : NodeState
