@@ -8,3 +8,5 @@ pub mod TakeLemmas
 pub mod TurnLemmas
 pub mod FollowersLeave
 pub mod FollowerLemmas
+pub mod SeldomWritten
+pub mod SeldomLemmas

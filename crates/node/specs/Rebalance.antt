@@ -32,7 +32,7 @@ use Rattle.node.specs.IsNode.{IsKept}
 use Rattle.node.specs.Rows.{as_cpus, rows_of, scaled_rows_of, planned, lacking}
 use Rattle.node.specs.Best.{moved, IsBest}
 use Rattle.node.specs.Entries.{plan_pool, opened}
-use Rattle.node.specs.Orders.{StepsBy, WritesBy}
+use Rattle.node.specs.Orders.{StepsBy, WritesBy, FinishesBy}
 
 -- what a node's scaled rows come to as a plan of cores. Their CPUs are the best sets that the containers could have. It is a
 -- least plan of these rows, with the cores' distance and their moves as its total.
@@ -122,22 +122,17 @@ pub record Writes (old new : NodeState) : Type 0 where
   pub writes : WritesBy handover.order old.machine handover old.kernel new.kernel
   pub is : new ≡ record old { kernel = new.kernel }
 
--- so many of them, one after another
-abbrev pub WritesMany : ℕ → NodeState → NodeState → Type 0
-WritesMany zero old new = new ≡ old
-WritesMany (suc n) old new = (mid : NodeState) × Writes old mid × WritesMany n mid new
+-- how a hand-over stands after its writes
+abbrev pub phase_after : Result (Unit {0}) KernelFault → Phase
+phase_after (Ok _) = Settled
+phase_after (Err fault) = Unsettled
 
--- the step that ends a hand-over
-abbrev pub Ends : NodeState → Result (Unit {0}) KernelFault → NodeState → Type 0
-Ends old (Ok done) new = StepsOn old (Ok Done) new
-Ends old (Err fault) new = StepsOn old (Err (Kernel fault)) new
-
--- the writes of the open hand-over, and the step that ends it
+-- all writes of the open hand-over at once, in its order, up to its end or to one that fails
 pub record Finishes (old : NodeState) (r : Result (Unit {0}) KernelFault) (new : NodeState) : Type 0 where
-  pub count : ℕ
-  pub mid : NodeState
-  pub writes : WritesMany count old mid
-  pub ends : Ends mid r new
+  pub handover : Ongoing
+  pub was : old.ongoing ≡ Some handover
+  pub makes : FinishesBy handover.order old.machine handover old.kernel r new.kernel
+  pub is : new ≡ record old { kernel = new.kernel; phase = phase_after r; ongoing = None }
 
 -- `begin` in this order, and the writes of its hand-over until it ends
 pub record Moves (order : Order) (old : NodeState) (total : ℕ) (r : Result (Unit {0}) KernelFault) (new : NodeState) : Type 0 where

@@ -1,0 +1,36 @@
+-- How often the writes of a direct hand-over that are made at once are of one container.
+use Rattle.std.specs.Prelude.{◌≡◌, ◌+◌, ◌≤◌, true, false, List, length, Result}
+use Rattle.std.specs.List.{AllByRecursion}
+use Rattle.std.specs.FinSet as set
+use Rattle.cpu_set.specs.Ids.{Ids}
+use Rattle.cpuset_tree.specs.declared.Group.{Group}
+use Rattle.cpuset_tree.specs.Groups.{same_group}
+use Rattle.kernel_model.specs.declared.KernelFault.{KernelFault}
+use Rattle.kernel_model.specs.KernelState.{KernelState}
+use Rattle.apply_plan.specs.declared.Entry.{Entry}
+use Rattle.apply_plan.specs.declared.scan.Write.{Write}
+use Rattle.apply_plan.specs.Targets.{IsHandover, ArePlaced}
+use Rattle.apply_plan.specs.DueWrite.{held}
+use Rattle.apply_plan.specs.MayWrite.{times_written}
+use Rattle.apply_plan.specs.Directed.{Directed, Least, Serves}
+use Rattle.direct_finish.specs.FinishesDirectly.{FinishesDirectly, asked_for}
+
+-- one that holds its target is not written. One that lets nothing go but reserved CPUs, as it only gets more, is written once at
+-- most. So is one that only lets go. No other is written more than twice.
+pub record IsSeldomWritten (k : KernelState) (reserved : Ids) (writes : List Write) (e : Entry) : Type 0 where
+  pub stays : held k e ≡ e.target → times_written e.group writes ≡ 0
+  pub grows : set.is_subset (set.difference (held k e) e.target) reserved ≡ true → times_written e.group writes ≤ 1
+  pub shrinks : set.is_subset e.target (held k e) ≡ true → times_written e.group writes ≤ 1
+  pub most : times_written e.group writes ≤ 2
+
+-- so it is with each container, no group of anybody else is written, and they are all that the kernel counted
+pub record WritesSeldom (d : Directed) (old : KernelState) (writes : List Write) (new : KernelState) : Type 0 where
+  pub all : new.writes ≡ old.writes + length writes
+  pub each : AllByRecursion (IsSeldomWritten old d.targets.reserved writes) d.targets.entries
+  pub others : (g : Group) → AllByRecursion (λ e. same_group e.group g ≡ false) d.targets.entries → times_written g writes ≡ 0
+
+-- so a hand-over writes that is made at once, the write that fails among the others
+abbrev pub FinishesWriteSeldom : Type 0
+FinishesWriteSeldom =
+    (d : Directed) (least : Least) (old : KernelState) (r : Result (Unit {0}) KernelFault) (new : KernelState) → IsHandover d.targets → Serves d least
+    → ArePlaced old d.targets.entries → (f : FinishesDirectly d least old r new) → WritesSeldom d old (asked_for d least old r new f) new
