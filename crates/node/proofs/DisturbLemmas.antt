@@ -44,7 +44,7 @@ use Rattle.node.specs.Entries.{Target, entry_of, plan_targets, plan_entries, ope
 use Rattle.node.specs.declared.order.Order.{Order}
 use Rattle.node.specs.LeastCores.{least_cores}
 use Rattle.node.specs.Orders.{directed_of, StepsBy, FinishesBy, made_by}
-use Rattle.node.specs.Rebalance.{Moves}
+use Rattle.node.specs.Rebalance.{Moves as HandsOver}
 use Rattle.node.specs.Disturbs.{before, turn_writes, asked_by, writes_of_moves, IsLittleWritten, WritesLittle, RebalancesWriteLittle}
 use Rattle.node.proofs.ListLemmas.{all_map, all_map2, all_of, all_of_map, of_all_map}
 use Rattle.node.proofs.HeadlineLemmas.{begun_node}
@@ -375,7 +375,7 @@ module _ (law : OrdersLeave) (old : NodeState) (h : IsNode old) (o : Ongoing) (w
       finishes_write_seldom (directed_of o) (least_cores old.machine) old.kernel r new opened_now.handover (served_now law old h o was) opened_now.placed makes
 
 -- the hand-over of a rebalance is the one that `begin` opened
-its_handover : (order : Order) (old : NodeState) (total : ℕ) (r : Result (Unit {0}) KernelFault) (new : NodeState) (m : Moves order old total r new)
+its_handover : (order : Order) (old : NodeState) (total : ℕ) (r : Result (Unit {0}) KernelFault) (new : NodeState) (m : HandsOver order old total r new)
     → m.finishes.handover ≡ opened order old (as_cpus old.machine m.begun.plan)
 its_handover order old total r new m =
     same_Some m.finishes.handover (opened order old (as_cpus old.machine m.begun.plan)) (sym m.finishes.was ∙ ap (λ (n : NodeState). n.ongoing) m.begun.is)

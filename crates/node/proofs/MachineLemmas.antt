@@ -161,7 +161,7 @@ module _ (law : OrdersLeave) where
   runs_rebalance effects weigh parts first events order old answer new h r b = rebalance_leaves order old (runs_keep first events old h r) law effects weigh parts answer new b
 
 -- the step that ends a hand-over, as an event
-ending : Result (Unit {0}) KernelFault → Event
+abbrev ending : Result (Unit {0}) KernelFault → Event
 ending (Ok done) = StepOn (Ok Done)
 ending (Err fault) = StepOn (Err (Kernel fault))
 
