@@ -21,7 +21,7 @@ use Rattle.certificate.specs.declared.certificates.Certificate.{Certificate}
 use Rattle.rows.specs.Scaled.{ScaledRowsWeigh}
 use Rattle.rows.specs.Weighs.{RowsWeigh}
 use Rattle.apply_plan.specs.declared.Progress.{Progress}
-use Rattle.apply_plan.specs.declared.Progress.TheVariants.{More, Done}
+use Rattle.apply_plan.specs.declared.Progress.TheVariants.{Done}
 use Rattle.apply_plan.specs.DueLemmas.{holds_its_target}
 use Rattle.apply_plan.specs.DueWrite.{must_move, HasTarget}
 use Rattle.node.specs.declared.fault.NodeFault.{NodeFault}

@@ -1,5 +1,5 @@
 -- Plans and the hand-overs to them, each call a relation by cases on what it answers.
-use Rattle.std.specs.Prelude.{◌≡◌, ◌*◌, ℕ, suc, zero, true, false, List, Option, Some, None, Result, Ok, Err}
+use Rattle.std.specs.Prelude.{◌≡◌, ◌*◌, ℕ, true, false, List, Option, Some, None, Result, Ok, Err}
 use Rattle.std.specs.FinSet as set
 use Rattle.cpu_set.specs.Ids.{Ids}
 use Rattle.cpu_set.specs.Members.{InRange}

@@ -38,9 +38,9 @@ pub fn first_kernels()
 /// values. All their refusals are among them, and the calls that only read. What is safe is safe after each of them.
 ///
 /// A rebalance which hands over leaves what `begin` and single writes leave (`single`). What is safe is safe after each
-/// of these, and so wherever a write fails. In turn they are those of steps (`steps`). In the direct order each squeezes
-/// onto the reserved CPUs only who is stuck in a ring, and each container keeps what it has of its target (`direct`).
-/// After each write of `create` and of `adopt` what is safe is safe by [`each_create`], and of `update` by
+/// of these, and so wherever a write fails. In turn they are those of steps (`steps`). In the direct order each
+/// squeezes onto the reserved CPUs only who is stuck in a ring, and each container keeps what it has of its target
+/// (`direct`). After each write of `create` and of `adopt` what is safe is safe by [`each_create`], and of `update` by
 /// [`each_update`]. Each other call makes at most one.
 ///
 /// A container asks for what the config says that was read for it last. The event that made it read that, a `create` or
@@ -115,9 +115,9 @@ pub fn each_write()
     ensures { RebalancesWriteLittle }
 {}
 
-/// Retries end. If no hand-over is open and n writes fail in all, then of n + 1 rebalances in a row one answers: a plan,
-/// a shortage, or that an allocation failed. However many there are, at most 2 (n + 1) writes for each live container
-/// succeed.
+/// Retries end. If no hand-over is open and n writes fail in all, then of n + 1 rebalances in a row one answers: a
+/// plan, a shortage, or that an allocation failed. However many there are, at most 2 (n + 1) writes for each live
+/// container succeed.
 pub fn retries()
     ensures { RetriesEnd }
 {}
