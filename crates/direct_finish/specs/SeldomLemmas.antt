@@ -1,7 +1,7 @@
 -- How often the writes of a direct hand-over are of one container: what each of them leaves to be waited for is counted.
 use Rattle.std.proofs.Common.{◌≡◌, ℕ, ◌+◌, ◌≤◌, Bool, true, false, cond, not, ◌&&◌, List, [], ◌∷◌, ◌++◌, length, refl, sym, ap, ◌∙◌, subst, arith}
 use Rattle.std.proofs.lemmas.Bool.{false≢true}
-use Rattle.std.specs.Prelude.{filter, find, Some, is_none, Result, Ok, Err}
+use Rattle.std.specs.Prelude.{filter, find, Some, None, is_none, Result, Ok, Err}
 use Rattle.std.specs.List.{AllByRecursion}
 use Rattle.std.specs.FinSet as set
 use Rattle.cpu_set.specs.Ids.{Ids}
@@ -18,7 +18,7 @@ use Rattle.apply_plan.specs.Holders.{Pairwise}
 use Rattle.apply_plan.specs.Targets.{HaveOtherGroups, IsHandover, IsPlaced, ArePlaced}
 use Rattle.apply_plan.specs.DueWrite.{held, must_move, written}
 use Rattle.apply_plan.specs.DueLemmas.{holds_its_target}
-use Rattle.apply_plan.specs.ListLemmas.{all_map2, all_of, find_among, find_none, find_passes, found_alone, none_found}
+use Rattle.apply_plan.specs.ListLemmas.{all_map, all_map2, all_of, find_among, find_none, find_passes, found_alone, none_found}
 use Rattle.apply_plan.specs.WriteLemmas.{IsWrite, by_test}
 use Rattle.apply_plan.specs.KernelFactLemmas.{with_request, is_write, made_is_placed}
 use Rattle.apply_plan.specs.DirectWords.{has_own, holds_some, are_free, lets_go, blocks, spare}
@@ -32,7 +32,7 @@ use Rattle.apply_plan.specs.DirectLemmas.{both_of, both, num, own_none, lets_mov
 use Rattle.direct_finish.specs.FinishesDirectly.{MayFollow, Follow, after, FinishesDirectly, asked_for}
 use Rattle.direct_finish.specs.FollowLemmas.{follow_on, after_both}
 use Rattle.direct_finish.specs.FinishLemmas.{is_direct, may_make}
-use Rattle.direct_finish.specs.SeldomWritten.{IsSeldomWritten, FinishesWriteSeldom}
+use Rattle.direct_finish.specs.SeldomWritten.{IsSeldomWritten, FinishesWriteSeldom, WithoutRings, FinishesWriteOnce}
 
 -- one write more
 times_first : (g : Group) (w : Write) (later : List Write) → times_written g (w ∷ later) ≡ num (same_group w.group g) + times_written g later
@@ -219,37 +219,64 @@ module _ (d : Directed) (valid : IsHandover d.targets) (least : Least) (serves :
             let yields = find_passes (must_yield k reserved entries) entries e at in
             absurd (need_not none (ap (blocks k reserved entries) (sym (is_it (must_yield k reserved entries) e at same)) ∙ (both_of (blocks k reserved entries e) _ yields).0))
 
-    -- so it is written once at most
+    -- where a write gives it its target, none behind it is of it
+    module _ (w : Write) (later : List Write) (k : KernelState) (follow : Followed k (w ∷ later)) (placed : ArePlaced k entries) where
+      abbrev now : KernelState
+      now = written k (Some w)
+
+      there : ArePlaced now entries
+      there = still_placed k w placed follow.0
+
+      first : times_written a.group (w ∷ later) ≡ num (same_group w.group a.group) + times_written a.group later
+      first = times_first a.group w later
+
+      mine : w.cpus ≡ a.target → same_group w.group a.group ≡ true → times_written a.group (w ∷ later) ≤ 1
+      mine takes same =
+          let has : held now a ≡ a.target = ap (requested_cpus now.tree) (sym (same_group-equal w.group a.group same)) ∙ (wrote k w placed follow.0).own ∙ takes in
+          let rest : times_written a.group later ≤ waits now a = of_all (λ x. times_written x.group later ≤ waits now x) (seldom later now follow.1 there) in
+          let none : waits now a ≡ 0 = waits_never now there has in
+          let one : num (same_group w.group a.group) ≡ 1 = ap num same in
+          omega (arith, first, rest, none, one)
+
+      stays : same_group w.group a.group ≡ false → held now a ≡ held k a
+      stays other = (wrote k w placed follow.0).others a.group other
+
+      another : same_group w.group a.group ≡ false → times_written a.group later ≤ 1 → times_written a.group (w ∷ later) ≤ 1
+      another other rest =
+          let none : num (same_group w.group a.group) ≡ 0 = ap num other in
+          omega (arith, first, rest, none)
+
+    -- so one that only lets go is written once at most
     shrinks_once : (ws : List Write) (k : KernelState) → Followed k ws → ArePlaced k entries → set.is_subset a.target (held k a) ≡ true → times_written a.group ws ≤ 1
     shrinks_once [] k follow placed sub = omega arith
     shrinks_once (w ∷ later) k follow placed sub =
-        by_test (same_group w.group a.group) mine (λ other. another other (shrinks_once later now follow.1 there (ap (set.is_subset a.target) (stays other) ∙ sub))) where
-          now : KernelState
-          now = written k (Some w)
+        by_test (same_group w.group a.group)
+        (λ same. mine w later k follow placed (takes_it k placed sub w (is_direct d valid least serves k w follow.0) same) same)
+        (λ other. another w later k follow placed other
+        (shrinks_once later (written k (Some w)) follow.1 (there w later k follow placed) (ap (set.is_subset a.target) (stays w later k follow placed other) ∙ sub)))
 
-          there : ArePlaced now entries
-          there = still_placed k w placed follow.0
+    -- where nobody has to yield, each write gives a container its target
+    module _ (k : KernelState) (none : find (must_yield k reserved entries) entries ≡ None) where
+      yields_not : (test : Entry → Bool) (e : Entry) → find test entries ≡ Some e → must_yield k reserved entries e ≡ true → ⊥
+      yields_not test e at yields =
+          false≢true (sym (find_among test (λ x. must_yield k reserved entries x ≡ false) entries e (find_none (must_yield k reserved entries) entries none) at) ∙ yields)
 
-          first : times_written a.group (w ∷ later) ≡ num (same_group w.group a.group) + times_written a.group later
-          first = times_first a.group w later
+      takes_only : (w : Write) → Direct d least k (Some w) → same_group w.group a.group ≡ true → w.cpus ≡ a.target
+      takes_only w (Takes test e at may) same = ap (λ (x : Entry). x.target) (is_it test e at same)
+      takes_only w (Shares e no_go at) same =
+          absurd (yields_not (shares k reserved entries) e at (both_of (not e.pinned) (must_yield k reserved entries e) (find_passes (shares k reserved entries) entries e at)).1)
+      takes_only w (StepsAside e no_go no_share at) same =
+          absurd (yields_not (steps_aside k reserved entries (allowed_of d) least) e at
+          (both_of (must_yield k reserved entries e) _ (both_of e.pinned _ (find_passes (steps_aside k reserved entries (allowed_of d) least) entries e at)).1).0)
+      takes_only w (IsSqueezed e no_go no_share no_aside at) same =
+          absurd (yields_not (must_yield k reserved entries) e at (find_passes (must_yield k reserved entries) entries e at))
 
-          mine : same_group w.group a.group ≡ true → times_written a.group (w ∷ later) ≤ 1
-          mine same =
-              let has : held now a ≡ a.target =
-              ap (requested_cpus now.tree) (sym (same_group-equal w.group a.group same)) ∙ (wrote k w placed follow.0).own
-              ∙ takes_it k placed sub w (is_direct d valid least serves k w follow.0) same in
-              let rest : times_written a.group later ≤ waits now a = of_all (λ x. times_written x.group later ≤ waits now x) (seldom later now follow.1 there) in
-              let none : waits now a ≡ 0 = waits_never now there has in
-              let one : num (same_group w.group a.group) ≡ 1 = ap num same in
-              omega (arith, first, rest, none, one)
-
-          stays : same_group w.group a.group ≡ false → held now a ≡ held k a
-          stays other = (wrote k w placed follow.0).others a.group other
-
-          another : same_group w.group a.group ≡ false → times_written a.group later ≤ 1 → times_written a.group (w ∷ later) ≤ 1
-          another other rest =
-              let none : num (same_group w.group a.group) ≡ 0 = ap num other in
-              omega (arith, first, rest, none)
+    once : (ws : List Write) (k : KernelState) → Followed k ws → ArePlaced k entries → WithoutRings d k ws → times_written a.group ws ≤ 1
+    once [] k follow placed no_rings = omega arith
+    once (w ∷ later) k follow placed no_rings =
+        by_test (same_group w.group a.group)
+        (λ same. mine w later k follow placed (takes_only k no_rings.0 w (is_direct d valid least serves k w follow.0) same) same)
+        (λ other. another w later k follow placed other (once later (written k (Some w)) follow.1 (there w later k follow placed) no_rings.1))
 
     is_seldom : (ws : List Write) (k : KernelState) → Followed k ws → ArePlaced k entries → times_written a.group ws ≤ waits k a → IsSeldomWritten k reserved ws a
     is_seldom ws k follow placed most = record {
@@ -288,3 +315,9 @@ finishes_write_seldom d least old r new valid serves placed f = record {
 
   follow : Follow (MayFollow d least) old ws
   follow = all_follow d valid least serves old r new f
+
+pub finishes_write_once : FinishesWriteOnce
+finishes_write_once d least old r new valid serves placed f no_rings =
+    all_map (λ a. find (λ x. same_group a.group x.group) d.targets.entries ≡ Some a) (λ a. times_written a.group (asked_for d least old r new f) ≤ 1)
+    (λ a found. once d valid least serves a found (asked_for d least old r new f) old (all_follow d valid least serves old r new f) placed no_rings) d.targets.entries
+    (found_each d.targets.entries valid.groups)

@@ -1,5 +1,5 @@
 -- How often the writes of a direct hand-over that are made at once are of one container.
-use Rattle.std.specs.Prelude.{◌≡◌, ◌+◌, ◌≤◌, true, false, List, length, Result}
+use Rattle.std.specs.Prelude.{◌≡◌, ◌+◌, ◌≤◌, true, false, List, [], ◌∷◌, find, length, Some, None, Result}
 use Rattle.std.specs.List.{AllByRecursion}
 use Rattle.std.specs.FinSet as set
 use Rattle.cpu_set.specs.Ids.{Ids}
@@ -10,9 +10,10 @@ use Rattle.kernel_model.specs.KernelState.{KernelState}
 use Rattle.apply_plan.specs.declared.Entry.{Entry}
 use Rattle.apply_plan.specs.declared.scan.Write.{Write}
 use Rattle.apply_plan.specs.Targets.{IsHandover, ArePlaced}
-use Rattle.apply_plan.specs.DueWrite.{held}
+use Rattle.apply_plan.specs.DueWrite.{held, written}
 use Rattle.apply_plan.specs.MayWrite.{times_written}
 use Rattle.apply_plan.specs.Directed.{Directed, Least, Serves}
+use Rattle.apply_plan.specs.DirectWrite.{must_yield}
 use Rattle.direct_finish.specs.FinishesDirectly.{FinishesDirectly, asked_for}
 
 -- one that holds its target is not written. One that lets nothing go but reserved CPUs, as it only gets more, is written once at
@@ -34,3 +35,15 @@ abbrev pub FinishesWriteSeldom : Type 0
 FinishesWriteSeldom =
     (d : Directed) (least : Least) (old : KernelState) (r : Result (Unit {0}) KernelFault) (new : KernelState) → IsHandover d.targets → Serves d least
     → ArePlaced old d.targets.entries → (f : FinishesDirectly d least old r new) → WritesSeldom d old (asked_for d least old r new f) new
+
+-- in none of the states before these writes one stands in a ring for whom others wait
+abbrev pub WithoutRings : Directed → KernelState → List Write → Type 0
+WithoutRings d k [] = Unit {0}
+WithoutRings d k (w ∷ later) = (find (must_yield k d.targets.reserved d.targets.entries) d.targets.entries ≡ None) × WithoutRings d (written k (Some w)) later
+
+-- then each container is written once at most, since each write is one by which it takes its target
+abbrev pub FinishesWriteOnce : Type 0
+FinishesWriteOnce =
+    (d : Directed) (least : Least) (old : KernelState) (r : Result (Unit {0}) KernelFault) (new : KernelState) → IsHandover d.targets → Serves d least
+    → ArePlaced old d.targets.entries → (f : FinishesDirectly d least old r new) → WithoutRings d old (asked_for d least old r new f)
+    → AllByRecursion (λ e. times_written e.group (asked_for d least old r new f) ≤ 1) d.targets.entries
