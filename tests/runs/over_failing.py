@@ -183,5 +183,14 @@ def of_retries():
         yield Run(fail, BOTH_COME + [("rebalance", FAULT), UNSETTLED] + AT_ONCE + AT_ONCE, next_works)
 
 
+def of_direct_ones():
+    """In the direct order `a` takes its free CPUs by one write, and `b` takes its own by the next one. A plan that stands takes none."""
+    for fail, sets in ((11, [A_OLD, B_RESERVED]), (12, [A_NEW, B_RESERVED])):
+        yield Run(fail, BOTH_COME + [("rebalance direct", FAULT)] + sets + [UNSETTLED, ("rebalance direct", PLAN_OF_BOTH)] + IN_PLACE)
+    next_fails = [HOME, ("make 0 x", "refused Failed"), ("make 0 x", "group 4")]
+    twice = [("rebalance direct", PLAN_OF_BOTH)] * 2 + IN_PLACE
+    yield Run(13, BOTH_COME + twice, next_fails)
+
+
 RUNS = [of_the_node, of_creates, of_others, of_the_first_plan, of_steps, of_what_is_kept, of_shared_ones, of_ends, of_events,
-        of_standing_plans, of_those_that_stay, of_retries]
+        of_standing_plans, of_those_that_stay, of_retries, of_direct_ones]

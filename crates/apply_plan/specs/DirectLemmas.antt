@@ -16,12 +16,12 @@ use Rattle.apply_plan.specs.declared.entry.Entry.{Entry}
 use Rattle.apply_plan.specs.Holders.{Pairwise, AreApart, IsSafe}
 use Rattle.apply_plan.specs.Targets.{Targets, holder_of, holders_of, HaveOtherGroups, AreTargetsApart, IsHandover, IsPlaced}
 use Rattle.apply_plan.specs.DueWrite.{held, must_move, written}
-use Rattle.apply_plan.specs.ListLemmas.{all_map, all_map2, pairs_both, find_none, none_found, find_passes, find_among, of_pairs_map, sum_le, all_of, sum_bounded}
+use Rattle.apply_plan.specs.ListLemmas.{all_map, all_map2, pairs_both, find_none, none_found, find_passes, find_among, found_alone, of_pairs_map, sum_le, all_of, sum_bounded}
 use Rattle.apply_plan.specs.WriteLemmas.{IsWrite, Left, MeetsNothing, ApartAs, apart_swap, targets_swap, by_test, all_left}
 use Rattle.apply_plan.specs.StepLemmas.{safe_after, is_same_itself}
 use Rattle.apply_plan.specs.KernelFactLemmas.{is_write}
 use Rattle.apply_plan.specs.DirectWords.{has_own, holds_some, are_free, lets_go, asks, holds_up, blocks}
-use Rattle.apply_plan.specs.MayWrite.{GivesWay, MayWrite, write_of, waits_for, left_directly, EachLowers, FewLeft}
+use Rattle.apply_plan.specs.MayWrite.{GivesWay, MayWrite, write_of, waits_for, left_directly, EachLowers, EachWaitsForLess, FewLeft}
 
 none_of : {A : Type 0} (o : Option A) → is_none o ≡ true → o ≡ None
 none_of None e = refl
@@ -233,6 +233,28 @@ module _ (old new : KernelState) (h : Targets) (valid : IsHandover h) (e : Entry
         sum_falls test (λ a b. same_group a.group b.group) (λ a b. same_group_sym a.group b.group)
         (waits_for old h.reserved h.entries) (waits_for new h.reserved h.entries) h.entries e valid.groups found less others_fall
 
+    -- what it waits for itself falls, and of the others it rises for none
+    pub each_falls : waits_for new h.reserved h.entries e + 1 ≤ waits_for old h.reserved h.entries e
+        → AllByRecursion (λ a. waits_for new h.reserved h.entries a + num (same_group e.group a.group) ≤ waits_for old h.reserved h.entries a) h.entries
+    each_falls less =
+        all_map2 (λ a. same_group e.group a.group ≡ true → a ≡ e)
+        (λ a. same_group e.group a.group ≡ false → waits_for new h.reserved h.entries a ≤ waits_for old h.reserved h.entries a)
+        (λ a. waits_for new h.reserved h.entries a + num (same_group e.group a.group) ≤ waits_for old h.reserved h.entries a) one h.entries
+        (found_alone test (λ a b. same_group a.group b.group) (λ a b. same_group_sym a.group b.group) h.entries e valid.groups found) others_fall
+      where
+        own : waits_for new h.reserved h.entries e + num (same_group e.group e.group) ≤ waits_for old h.reserved h.entries e
+        own = let is : num (same_group e.group e.group) ≡ 1 = ap num (same_group_itself e.group) in omega (arith, less, is)
+
+        one : (a : Entry) → (same_group e.group a.group ≡ true → a ≡ e)
+            → (same_group e.group a.group ≡ false → waits_for new h.reserved h.entries a ≤ waits_for old h.reserved h.entries a)
+            → waits_for new h.reserved h.entries a + num (same_group e.group a.group) ≤ waits_for old h.reserved h.entries a
+        one a only other = by_test (same_group e.group a.group)
+            (λ same. subst (λ (z : Entry). waits_for new h.reserved h.entries z + num (same_group e.group z.group) ≤ waits_for old h.reserved h.entries z) (sym (only same)) own)
+            (λ off.
+            let no_more : waits_for new h.reserved h.entries a ≤ waits_for old h.reserved h.entries a = other off in
+            let none : num (same_group e.group a.group) ≡ 0 = ap num off in
+            omega (arith, no_more, none))
+
   -- what is written is nothing that a rival holds
   module _ (some : is_empty cpus ≡ false) (free : are_free old h.reserved h.entries e cpus ≡ true) where
     -- what is known of two entries: their groups are two, and they are apart
@@ -280,18 +302,23 @@ module _ (old new : KernelState) (h : Targets) (valid : IsHandover h) (e : Entry
     moved_old : must_move old e ≡ true
     moved_old = lets_moves old h.reserved e lets_old
 
-    pub gives_falls : left_directly h new + 1 ≤ left_directly h old
-    gives_falls =
-        falls moved_old (λ _. lets_old)
-        (let a : num (blocks new h.reserved h.entries e) ≡ 0 = ap num (yields_blocks moved_old (λ _. lets_old) gives.yields) in
+    gives_less : waits_for new h.reserved h.entries e + 1 ≤ waits_for old h.reserved h.entries e
+    gives_less =
+        let a : num (blocks new h.reserved h.entries e) ≡ 0 = ap num (yields_blocks moved_old (λ _. lets_old) gives.yields) in
         let b : num (blocks old h.reserved h.entries e) ≡ 1 = ap num gives.blocked in
         let c : num (must_move old e) ≡ 1 = ap num moved_old in
         let d : num (must_move new e) ≤ 1 = at_most (must_move new e) in
-        omega (arith, a, b, c, d))
+        omega (arith, a, b, c, d)
       where
         at_most : (x : Bool) → num x ≤ 1
         at_most true = omega arith
         at_most false = omega arith
+
+    pub gives_falls : left_directly h new + 1 ≤ left_directly h old
+    gives_falls = falls moved_old (λ _. lets_old) gives_less
+
+    pub gives_each : AllByRecursion (λ a. waits_for new h.reserved h.entries a + num (same_group e.group a.group) ≤ waits_for old h.reserved h.entries a) h.entries
+    gives_each = each_falls moved_old (λ _. lets_old) gives_less
 
   -- one that takes its target
   module _ (is_target : cpus ≡ e.target) (moved : must_move old e ≡ true) where
@@ -320,18 +347,35 @@ module _ (old new : KernelState) (h : Targets) (valid : IsHandover h) (e : Entry
               let in_both = both_of (set.contains cpus cpu) (set.contains d.target cpu) (sym (contains-intersection cpus d.target cpu) ∙ m) in
               apart known.1.0 (ap (λ p. e.pinned || p) known.0 ∙ or_true e.pinned) cpu (ap (λ s. set.contains s cpu) (sym is_target) ∙ in_both.0) in_both.1)
 
-    pub takes_falls : left_directly h new + 1 ≤ left_directly h old
-    takes_falls =
-        falls moved lets_none
-        (let a : num (blocks new h.reserved h.entries e) ≡ 0 = ap num (yields_blocks moved lets_none target_yields) in
+    takes_less : waits_for new h.reserved h.entries e + 1 ≤ waits_for old h.reserved h.entries e
+    takes_less =
+        let a : num (blocks new h.reserved h.entries e) ≡ 0 = ap num (yields_blocks moved lets_none target_yields) in
         let b : num (must_move new e) ≡ 0 =
         ap (λ s. num (is_alive new.table e.pid && not (is_same s e.target))) holds_it ∙ ap (λ s. num (is_alive new.table e.pid && not s)) (is_same_itself e.target) ∙ none_of_it (is_alive new.table e.pid) in
         let c : num (must_move old e) ≡ 1 = ap num moved in
-        omega (arith, a, b, c))
+        omega (arith, a, b, c)
       where
         none_of_it : (x : Bool) → num (x && not true) ≡ 0
         none_of_it true = refl
         none_of_it false = refl
+
+    pub takes_falls : left_directly h new + 1 ≤ left_directly h old
+    takes_falls = falls moved lets_none takes_less
+
+    pub takes_each : AllByRecursion (λ a. waits_for new h.reserved h.entries a + num (same_group e.group a.group) ≤ waits_for old h.reserved h.entries a) h.entries
+    takes_each = each_falls moved lets_none takes_less
+
+pub each_waits_for_less : EachWaitsForLess
+each_waits_for_less h old test e cpus valid placed found may = by may where
+  new : KernelState
+  new = written old (Some (write_of e cpus))
+
+  w : IsWrite old new e.group cpus
+  w = is_write old e.group cpus (find_among test (λ a. IsPlaced old a.group) h.entries e placed found).there
+
+  by : MayWrite h old e cpus → AllByRecursion (λ a. waits_for new h.reserved h.entries a + num (same_group e.group a.group) ≤ waits_for old h.reserved h.entries a) h.entries
+  by (inr way) = gives_each old new h valid e cpus w test found way
+  by (inl take) = takes_each old new h valid e cpus w test found take.1 (both_of (must_move old e) (are_free old h.reserved h.entries e e.target) take.0).0
 
 pub each_lowers : EachLowers
 each_lowers h old test e cpus valid placed found may = by may where

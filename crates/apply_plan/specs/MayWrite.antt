@@ -1,8 +1,10 @@
 -- Which writes a direct hand-over may make, whatever chooses among them; and what each of them leaves.
-use Rattle.std.specs.Prelude.{◌≡◌, ◌⊎◌, ℕ, ◌+◌, ◌*◌, ◌≤◌, length, Bool, true, false, cond, List, find, Some}
+use Rattle.std.specs.Prelude.{◌≡◌, ◌⊎◌, ℕ, ◌+◌, ◌*◌, ◌≤◌, length, Bool, true, false, cond, filter, List, find, Some}
 use Rattle.std.specs.List.{AllByRecursion, sum_by}
 use Rattle.std.specs.FinSet as set
 use Rattle.cpu_set.specs.Ids.{Ids, is_empty}
+use Rattle.cpuset_tree.specs.declared.Group.{Group}
+use Rattle.cpuset_tree.specs.Groups.{same_group}
 use Rattle.kernel_model.specs.KernelState.{KernelState}
 use Rattle.apply_plan.specs.declared.entry.Entry.{Entry}
 use Rattle.apply_plan.specs.declared.scan.Write.{Write}
@@ -48,6 +50,18 @@ EachLowers =
     → MayWrite h old e cpus
     → (IsSafe old h.reserved (holders_of h.entries) → IsSafe (written old (Some (write_of e cpus))) h.reserved (holders_of h.entries))
     × (left_directly h (written old (Some (write_of e cpus))) + 1 ≤ left_directly h old)
+
+-- how many of the writes are of this group
+abbrev pub times_written : Group → List Write → ℕ
+times_written g writes = length (filter (λ w. same_group w.group g) writes)
+
+-- whichever of these writes is made, its container waits for one less, or fewer, and no other one for more
+abbrev pub EachWaitsForLess : Type 0
+EachWaitsForLess =
+    (h : Targets) (old : KernelState) (test : Entry → Bool) (e : Entry) (cpus : Ids) → IsHandover h → ArePlaced old h.entries → find test h.entries ≡ Some e
+    → MayWrite h old e cpus
+    → AllByRecursion (λ a. waits_for (written old (Some (write_of e cpus))) h.reserved h.entries a + cond (same_group e.group a.group) 1 0
+    ≤ waits_for old h.reserved h.entries a) h.entries
 
 -- at most two writes for each entry are left
 abbrev pub FewLeft : Type 0

@@ -5,7 +5,7 @@ ghost use Rattle.cpuset_tree.specs.Worked.{web, batch};
 ghost use Rattle.apply_plan.specs.DueWrite.{due};
 ghost use Rattle.apply_plan.specs.Runs.{StaysSafe, StaysBetween, EndsWithin, FewToCome};
 ghost use Rattle.apply_plan.specs.OneStep.{StepsLeave};
-ghost use Rattle.apply_plan.specs.MayWrite.{EachLowers, FewLeft};
+ghost use Rattle.apply_plan.specs.MayWrite.{EachLowers, EachWaitsForLess, FewLeft};
 ghost use Rattle.apply_plan.specs.DirectOneStep.{DirectStepsLeave};
 ghost use Rattle.apply_plan.specs.DirectRuns.{StaysSafeDirectly, StaysOnWay, EndsDirectly};
 ghost use Rattle.apply_plan.specs.Effects.{TargetsTakeEffect, SafeInEffect};
@@ -57,9 +57,11 @@ pub fn worked()
 /// The direct order, whichever of its writes are made: a container takes its target, of which no rival holds any, or
 /// one of which others ask gives way.
 ///
-/// What was safe stays safe after each. At most two writes for each entry are left, and each makes them fewer.
+/// What was safe stays safe after each. At most two writes for each entry are left, and each makes them fewer: its
+/// container waits for one less then, or fewer, and no other one for more.
 pub fn directly()
     ensures lowers { EachLowers }
+    ensures each { EachWaitsForLess }
     ensures few { FewLeft }
 {}
 

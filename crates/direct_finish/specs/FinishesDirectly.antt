@@ -1,5 +1,5 @@
 -- All writes of a direct hand-over, one after another.
-use Rattle.std.specs.Prelude.{◌≡◌, ◌⊎◌, Bool, true, List, [], ◌∷◌, find, Some, is_none, Result, Ok, Err}
+use Rattle.std.specs.Prelude.{◌≡◌, ◌⊎◌, Bool, true, List, [], ◌∷◌, ◌++◌, find, Some, is_none, Result, Ok, Err}
 use Rattle.kernel_model.specs.declared.KernelFault.{KernelFault}
 use Rattle.kernel_model.specs.declared.KernelFault.TheVariants.{Failed}
 use Rattle.kernel_model.specs.KernelState.{KernelState}
@@ -46,6 +46,11 @@ pub record FinishesDirectly (d : Directed) (least : Least) (old : KernelState) (
   pub writes : List Write
   pub follow : Follow (MayFollow d least) old writes
   pub ends : EndsAt d least (after old writes) r new
+
+-- the writes that it asks the kernel for, in order, and the one that fails among them
+abbrev pub asked_for : (d : Directed) (least : Least) (old : KernelState) (r : Result (Unit {0}) KernelFault) (new : KernelState) → FinishesDirectly d least old r new → List Write
+asked_for d least old (Ok _) new f = f.writes
+asked_for d least old (Err fault) new f = f.writes ++ f.ends.1.0 ∷ []
 
 -- and each squeezes only whoever was stuck in a ring when it was made
 pub record SqueezesInRings (d : Directed) (least : Least) (old : KernelState) (r : Result (Unit {0}) KernelFault) (new : KernelState) : Type 0 where

@@ -24,11 +24,11 @@ follow_map P R Q keeps f (w ∷ later) k follow q =
     (f k w follow.0 q, follow_map P R Q keeps f later (written k (Some w)) follow.1 (keeps k w follow.0 q))
 
 module _ (P : KernelState → Write → Type 0) where
-  follow_on : (ones later_ones : List Write) (k : KernelState) → Follow P k ones → Follow P (after k ones) later_ones → Follow P k (ones ++ later_ones)
+  pub follow_on : (ones later_ones : List Write) (k : KernelState) → Follow P k ones → Follow P (after k ones) later_ones → Follow P k (ones ++ later_ones)
   follow_on [] later_ones k first later = later
   follow_on (w ∷ ones) later_ones k first later = (first.0, follow_on ones later_ones (written k (Some w)) first.1 later)
 
-  after_both : (ones later_ones : List Write) (k : KernelState) → after k (ones ++ later_ones) ≡ after (after k ones) later_ones
+  pub after_both : (ones later_ones : List Write) (k : KernelState) → after k (ones ++ later_ones) ≡ after (after k ones) later_ones
   after_both [] later_ones k = refl
   after_both (w ∷ ones) later_ones k = after_both ones later_ones (written k (Some w))
 

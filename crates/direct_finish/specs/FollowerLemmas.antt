@@ -1,5 +1,5 @@
 -- What one of the writes leaves that may follow, and that a single step has one to make as long.
-use Rattle.std.proofs.Common.{◌≡◌, ◌<◌, true, false, refl, sym, ap, ◌∙◌, subst}
+use Rattle.std.proofs.Common.{◌≡◌, ◌<◌, true, false, refl, sym, ◌∙◌, subst}
 use Rattle.std.proofs.lemmas.Bool.{false≢true}
 use Rattle.std.specs.Prelude.{find, Option, Some, None, is_none, is_some, Ok}
 use Rattle.kernel_model.specs.KernelState.{KernelState}

@@ -8,5 +8,7 @@ pub mod TakeLemmas
 pub mod TurnLemmas
 pub mod FollowersLeave
 pub mod FollowerLemmas
+pub mod SeldomWritten
+pub mod SeldomLemmas
 pub mod FinishesTold
 pub mod FinishesToldLemmas

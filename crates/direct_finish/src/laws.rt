@@ -9,16 +9,23 @@ ghost use Rattle.apply_plan.specs.Worked.{both_live, write};
 ghost use Rattle.direct_finish.specs.FinishesDirectly.{FinishesDirectly};
 ghost use Rattle.direct_finish.specs.FinishesTold.{FinishesAreTold};
 ghost use Rattle.direct_finish.specs.FollowersLeave.{FollowersLeave, EachStepFollows};
+ghost use Rattle.direct_finish.specs.SeldomWritten.{FinishesWriteSeldom, FinishesWriteOnce};
 
 /// After each single write what was safe is safe, one write less is to come, or fewer, and only one that is stuck in a
 /// ring is squeezed onto the reserved CPUs.
 ///
 /// As long as one of the writes may follow, a single step has a write to make. Once nobody must move it has none.
 ///
+/// A container that holds its target is not written. One that only gets more CPUs, or only lets go, is written once at
+/// most, and no other more than twice (`seldom`). Where nobody for whom others wait stands in a ring, each is written
+/// once at most (`once`).
+///
 /// All together they ask the kernel for just their writes, one after another, and for the one that failed (`told`).
 pub fn each_write()
     ensures leaves { FollowersLeave }
     ensures steps { EachStepFollows }
+    ensures seldom { FinishesWriteSeldom }
+    ensures once { FinishesWriteOnce }
     ensures told { FinishesAreTold }
 {}
 

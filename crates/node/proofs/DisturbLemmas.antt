@@ -3,7 +3,7 @@ use Rattle.std.proofs.Common.{◌≡◌, ℕ, zero, suc, ◌+◌, ◌≤◌, Boo
 use Rattle.std.proofs.lemmas.Bool.{false≢true, cond-false, cond-true}
 use Rattle.std.proofs.lemmas.List.Sums.{sum_by-cons}
 use Rattle.std.proofs.lemmas.Option.{same_Some}
-use Rattle.std.specs.Prelude.{filter, find, Option, Some, None, is_some, Result, Ok, Err}
+use Rattle.std.specs.Prelude.{filter, find, Option, Some, None, is_some, Result, Ok}
 use Rattle.std.specs.List.{AllByRecursion}
 use Rattle.std.specs.FinSet as set
 use Rattle.cpu_set.specs.Ids.{Ids, IsDisjoint, is_empty, is_same}
@@ -15,7 +15,8 @@ use Rattle.proctable.specs.Processes.{is_alive}
 use Rattle.kernel_model.specs.declared.KernelFault.{KernelFault}
 use Rattle.kernel_model.specs.KernelState.{KernelState, writes}
 use Rattle.apply_plan.specs.declared.Entry.{Entry}
-use Rattle.apply_plan.specs.declared.Progress.TheVariants.{More, Done}
+use Rattle.apply_plan.specs.declared.Progress.{Progress}
+use Rattle.apply_plan.specs.declared.Progress.TheVariants.{More}
 use Rattle.apply_plan.specs.declared.scan.Write.{Write}
 use Rattle.apply_plan.specs.Holders.{HasSome}
 use Rattle.apply_plan.specs.Kept.{within, kept}
@@ -23,13 +24,17 @@ use Rattle.apply_plan.specs.KeptLemmas.{kept_all, kept_some}
 use Rattle.apply_plan.specs.Targets.{Targets, holder_of, IsPlaced, ArePlaced, IsHandover}
 use Rattle.apply_plan.specs.DueLemmas.{Due, Releases, Moves, Rests, due_is, holds_its_target, keeps_its_target, lets_none_go}
 use Rattle.apply_plan.specs.DueWrite.{held, kept_of, must_release, must_move, due, written, Steps, writes_of, writes_to_come, made_by_step}
+use Rattle.apply_plan.specs.Finishes as turn
+use Rattle.apply_plan.specs.Finishes.{last_answer}
 use Rattle.apply_plan.specs.KernelFactLemmas.{with_request, is_write}
 use Rattle.apply_plan.specs.ListLemmas.{find_passes, find_among, find_none, found_alone}
+use Rattle.apply_plan.specs.MayWrite.{times_written}
 use Rattle.apply_plan.specs.Runs.{IsOpen}
 use Rattle.apply_plan.specs.StepLemmas.{waits_at_most, released_lowers, moved_lowers}
 use Rattle.apply_plan.specs.WriteLemmas.{IsWrite, by_test}
-use Rattle.node.specs.declared.order.Order.TheVariants.{InTurn}
-use Rattle.node.specs.declared.phase.Phase.TheVariants.{Settled, Unsettled}
+use Rattle.direct_finish.specs.SeldomWritten.{IsSeldomWritten, WritesSeldom}
+use Rattle.direct_finish.specs.SeldomLemmas.{finishes_write_seldom}
+use Rattle.node.specs.declared.order.Order.TheVariants.{InTurn, Directly}
 use Rattle.node.specs.NodeState.{Ongoing, NodeState}
 use Rattle.node.specs.Owners.{owners_of}
 use Rattle.node.specs.IsNode.{IsNode}
@@ -37,15 +42,16 @@ use Rattle.node.specs.Rows.{as_cpus, requested_by}
 use Rattle.node.specs.Best.{CouldHave}
 use Rattle.node.specs.Entries.{Target, entry_of, plan_targets, plan_entries, opened}
 use Rattle.node.specs.declared.order.Order.{Order}
-use Rattle.node.specs.Orders.{StepsBy, made_by}
-use Rattle.node.specs.Rebalance.{WritesMany, Ends}
-use Rattle.node.specs.Disturbs.{before, last_write, writes_of_many, writes_of_moves, times_written, IsLittleWritten, WritesLittle, RebalancesWriteLittle}
+use Rattle.node.specs.LeastCores.{least_cores}
+use Rattle.node.specs.Orders.{directed_of, StepsBy, FinishesBy, made_by}
+use Rattle.node.specs.Rebalance.{Moves as HandsOver}
+use Rattle.node.specs.Disturbs.{before, turn_writes, asked_by, writes_of_moves, IsLittleWritten, WritesLittle, RebalancesWriteLittle}
 use Rattle.node.proofs.ListLemmas.{all_map, all_map2, all_of, all_of_map, of_all_map}
 use Rattle.node.proofs.HeadlineLemmas.{begun_node}
 use Rattle.node.proofs.OngoingLemmas.{entries_safe}
 use Rattle.node.proofs.OrderLemmas.{OrdersLeave}
 use Rattle.node.proofs.PlanLemmas.{opened_ongoing}
-use Rattle.node.proofs.StepLemmas.{its_steps, its_writes, its_misses, turn_step, open_now, leaves, missed as missed_by, wrote_node}
+use Rattle.node.proofs.StepLemmas.{open_now, served_now, leaves, more_node}
 
 -- ---- one more write
 
@@ -175,9 +181,6 @@ module _ (law : OrdersLeave) (o : Ongoing) (in_turn : o.order ≡ InTurn) where
         others_missed o.targets opened_now.handover old.kernel opened_now.placed g apart (due o.targets old.kernel)
         (due_is old.kernel o.targets.reserved o.targets.entries)
 
-    same_due : (x : Ongoing) → old.ongoing ≡ Some x → due x.targets old.kernel ≡ due o.targets old.kernel
-    same_due x is = ap (λ (y : Ongoing). due y.targets old.kernel) (same_Some x o (sym is ∙ was))
-
     -- one write, and none after it
     last_little : (d : Option Write) → d ≡ due o.targets old.kernel → (new : KernelState) → writes new ≡ writes old.kernel + made_by_step o.targets old.kernel
         → Little o old.kernel (before d []) new
@@ -223,38 +226,32 @@ module _ (law : OrdersLeave) (o : Ongoing) (in_turn : o.order ≡ InTurn) where
           omega (arith, times, none, on);
     }
 
+  -- a step in turn is one in its order
+  by_turn : (old : NodeState) (r : Result Progress KernelFault) (new : KernelState) → Steps o.targets old.kernel r new → StepsBy o.order old.machine o old.kernel r new
+  by_turn old r new s = subst (λ (order : Order). StepsBy order old.machine o old.kernel r new) (sym in_turn) s
+
   -- how many writing calls a step in turn made
   made_one : (old : NodeState) (new : KernelState) → writes new ≡ writes old.kernel + made_by o.order old.machine o old.kernel
       → writes new ≡ writes old.kernel + made_by_step o.targets old.kernel
   made_one old new made = subst (λ (order : Order). writes new ≡ writes old.kernel + made_by order old.machine o old.kernel) in_turn made
 
-  -- the last step, by its answer
-  ended_little : (old : NodeState) (h : IsNode old) (was : old.ongoing ≡ Some o) (r : Result (Unit {0}) KernelFault) (new : NodeState) (s : Ends old r new)
-      → Little o old.kernel (last_write old r new s) new.kernel
-  ended_little old h was (Ok done) new s =
-      last_little old h was (due s.handover.targets old.kernel) (same_due old h was s.handover s.was) new.kernel
-      (made_one old new.kernel (leaves law old h o was new.kernel (Ok Done) (its_steps old o was new (Ok Done) Settled None s)).made)
-  ended_little old h was (Err fault) new s =
-      last_little old h was (due s.handover.targets old.kernel) (same_due old h was s.handover s.was) new.kernel
-      (made_one old new.kernel (missed_by law old h o was fault new.kernel (its_misses old o was fault new s)).made)
+  -- the last step
+  ended_little : (old : NodeState) (h : IsNode old) (was : old.ongoing ≡ Some o) (r : Result Progress KernelFault) (new : KernelState) → Steps o.targets old.kernel r new
+      → Little o old.kernel (before (due o.targets old.kernel) []) new
+  ended_little old h was r new s = last_little old h was (due o.targets old.kernel) refl new (made_one old new (leaves law old h o was new r (by_turn old r new s)).made)
 
-  all_little : (count : ℕ) (old mid new : NodeState) → IsNode old → old.ongoing ≡ Some o → (more : WritesMany count old mid) (r : Result (Unit {0}) KernelFault)
-      (ends : Ends mid r new) → Little o old.kernel (writes_of_many count old mid more (last_write mid r new ends)) new.kernel
-  all_little zero old mid new h was more r ends =
-      let node : IsNode mid = subst (λ (n : NodeState). IsNode n) (sym more) h in
-      let its : mid.ongoing ≡ Some o = ap (λ (n : NodeState). n.ongoing) more ∙ was in
-      subst (λ (n : NodeState). Little o n.kernel (last_write mid r new ends) new.kernel) more (ended_little mid node its r new ends)
-  all_little (suc count) old mid new h was more r ends =
-      let s = more.1 in
-      let its = its_writes old o was more.0 s in
-      let by = turn_step o.order in_turn old.machine o old.kernel more.0.kernel its in
-      let steps : Steps o.targets old.kernel (Ok More) more.0.kernel =
-      subst (λ (order : Order). StepsBy order old.machine o old.kernel (Ok More) more.0.kernel) in_turn by in
-      let node : IsNode more.0 = subst (λ (n : NodeState). IsNode n) (sym s.is) (wrote_node law old h o was more.0.kernel its) in
-      let there : more.0.ongoing ≡ Some o = ap (λ (n : NodeState). n.ongoing) s.is ∙ was in
-      first_little old h was (due s.handover.targets old.kernel) (same_due old h was s.handover s.was) more.0.kernel steps.0
-      (made_one old more.0.kernel (leaves law old h o was more.0.kernel (Ok More) by).made) (writes_of_many count more.0 mid more.2 (last_write mid r new ends)) new.kernel
-      (all_little count more.0 mid new node there more.2 r ends)
+  all_little : (count : ℕ) (old : NodeState) (mid : KernelState) → IsNode old → old.ongoing ≡ Some o → (more : turn.StepsMore o.targets count old.kernel mid)
+      (r : Result Progress KernelFault) (new : KernelState) → Steps o.targets mid r new
+      → Little o old.kernel (turn_writes o.targets count old.kernel mid more (before (due o.targets mid) [])) new
+  all_little zero old mid h was same r new s =
+      subst (λ (k : KernelState). Little o old.kernel (before (due o.targets k) []) new) (sym same)
+      (ended_little old h was r new (subst (λ (k : KernelState). Steps o.targets k r new) same s))
+  all_little (suc count) old mid h was (next, step, more) r new s =
+      let by = by_turn old (Ok More) next step in
+      let node : IsNode (record old { kernel = next }) = more_node law old h o was next (Ok More) by in
+      first_little old h was (due o.targets old.kernel) refl next step.0
+      (made_one old next (leaves law old h o was next (Ok More) by).made) (turn_writes o.targets count next mid more (before (due o.targets mid) [])) new
+      (all_little count (record old { kernel = next }) mid node was more r new s)
 
 -- ---- what one container waits for
 
@@ -351,14 +348,55 @@ module _ (old : NodeState) (h : IsNode old) (sets : List Ids) (could : CouldHave
     others = λ g apart. l.others g (all_of_map entry_of (λ a. same_group a.group g ≡ false) (plan_targets old sets) apart);
   }
 
+  -- directly
+  one_seldom : (p : Target) → IsSeldomWritten old.kernel old.machine.reserved these (entry_of p) → IsLittleWritten old.kernel old.machine.reserved these p
+  one_seldom p s = record { stays = s.stays; grows = s.grows; shrinks = λ sub apart. s.shrinks sub; most = s.most }
+
+  pub seldom_is_little : (new : NodeState) → WritesSeldom (directed_of (opened Directly old sets)) old.kernel these new.kernel → WritesLittle old sets these new
+  seldom_is_little new s = record {
+    all = s.all;
+    each = all_map (λ p. IsSeldomWritten old.kernel old.machine.reserved these (entry_of p)) (IsLittleWritten old.kernel old.machine.reserved these) one_seldom (plan_targets old sets)
+        (of_all_map entry_of (IsSeldomWritten old.kernel old.machine.reserved these) (plan_targets old sets) s.each);
+    others = λ g apart. s.others g (all_of_map entry_of (λ a. same_group a.group g ≡ false) (plan_targets old sets) apart);
+  }
+
+-- what is asked of the kernel is so, if the hand-over is this one
+module _ (law : OrdersLeave) (old : NodeState) (h : IsNode old) (o : Ongoing) (was : old.ongoing ≡ Some o) (r : Result (Unit {0}) KernelFault) (new : KernelState) where
+  asked_in_turn : (order : Order) → order ≡ InTurn → o.order ≡ InTurn → (makes : FinishesBy order old.machine o old.kernel r new)
+      → Little o old.kernel (asked_by order old.machine o old.kernel r new makes) new
+  asked_in_turn InTurn is in_turn makes = all_little law o in_turn makes.steps old makes.mid h was makes.more (last_answer r) new makes.ends
+  asked_in_turn Directly is in_turn makes = absurd (let no : ⊥ = cc is in no)
+
+  asked_directly : (order : Order) → order ≡ Directly → (makes : FinishesBy order old.machine o old.kernel r new)
+      → WritesSeldom (directed_of o) old.kernel (asked_by order old.machine o old.kernel r new makes) new
+  asked_directly InTurn is makes = absurd (let no : ⊥ = cc is in no)
+  asked_directly Directly is makes =
+      let opened_now = open_now law old h o was in
+      finishes_write_seldom (directed_of o) (least_cores old.machine) old.kernel r new opened_now.handover (served_now law old h o was) opened_now.placed makes
+
+-- the hand-over of a rebalance is the one that `begin` opened
+its_handover : (order : Order) (old : NodeState) (total : ℕ) (r : Result (Unit {0}) KernelFault) (new : NodeState) (m : HandsOver order old total r new)
+    → m.finishes.handover ≡ opened order old (as_cpus old.machine m.begun.plan)
+its_handover order old total r new m =
+    same_Some m.finishes.handover (opened order old (as_cpus old.machine m.begun.plan)) (sym m.finishes.was ∙ ap (λ (n : NodeState). n.ongoing) m.begun.is)
+
 pub rebalances_write_little : OrdersLeave → RebalancesWriteLittle
-rebalances_write_little law old total r new h m =
-    let b = m.begun in
-    let sets : List Ids = as_cpus old.machine b.plan in
+rebalances_write_little law InTurn old total r new h m =
     let f = m.finishes in
-    let these : List Write = writes_of_moves old total r new m in
-    let node : IsNode m.mid = begun_node InTurn old h total m.mid b in
-    let l : Little (opened InTurn old sets) m.mid.kernel these new.kernel =
-    all_little law (opened InTurn old sets) refl f.count m.mid f.mid new node (ap (λ (n : NodeState). n.ongoing) b.is) f.writes r f.ends in
-    writes_little old h sets b.best.could these new
-    (subst (λ (k : KernelState). Little (opened InTurn old sets) k these new.kernel) (ap (λ (n : NodeState). n.kernel) b.is) l)
+    let sets : List Ids = as_cpus old.machine m.begun.plan in
+    let its : f.handover ≡ opened InTurn old sets = its_handover InTurn old total r new m in
+    let order : f.handover.order ≡ InTurn = ap (λ (x : Ongoing). x.order) its in
+    let l : Little f.handover m.mid.kernel (writes_of_moves InTurn old total r new m) new.kernel =
+    asked_in_turn law m.mid (begun_node InTurn old h total m.mid m.begun) f.handover f.was r new.kernel f.handover.order order order f.makes in
+    writes_little old h sets m.begun.best.could (writes_of_moves InTurn old total r new m) new
+    (subst (λ (k : KernelState). Little (opened InTurn old sets) k (writes_of_moves InTurn old total r new m) new.kernel) (ap (λ (n : NodeState). n.kernel) m.begun.is)
+    (subst (λ (x : Ongoing). Little x m.mid.kernel (writes_of_moves InTurn old total r new m) new.kernel) its l))
+rebalances_write_little law Directly old total r new h m =
+    let f = m.finishes in
+    let sets : List Ids = as_cpus old.machine m.begun.plan in
+    let its : f.handover ≡ opened Directly old sets = its_handover Directly old total r new m in
+    let s : WritesSeldom (directed_of f.handover) m.mid.kernel (writes_of_moves Directly old total r new m) new.kernel =
+    asked_directly law m.mid (begun_node Directly old h total m.mid m.begun) f.handover f.was r new.kernel f.handover.order (ap (λ (x : Ongoing). x.order) its) f.makes in
+    seldom_is_little old h sets m.begun.best.could (writes_of_moves Directly old total r new m) new
+    (subst (λ (k : KernelState). WritesSeldom (directed_of (opened Directly old sets)) k (writes_of_moves Directly old total r new m) new.kernel) (ap (λ (n : NodeState). n.kernel) m.begun.is)
+    (subst (λ (x : Ongoing). WritesSeldom (directed_of x) m.mid.kernel (writes_of_moves Directly old total r new m) new.kernel) its s))

@@ -7,7 +7,7 @@ use Rattle.kernel_model.specs.declared.KernelFault.TheVariants.{Failed}
 use Rattle.kernel_model.specs.KernelState.{KernelState, writes}
 use Rattle.kernel_model.specs.Cases.{rise}
 use Rattle.apply_plan.specs.declared.Progress.{Progress}
-use Rattle.apply_plan.specs.declared.Progress.TheVariants.{More, Done}
+use Rattle.apply_plan.specs.declared.Progress.TheVariants.{Done}
 use Rattle.apply_plan.specs.declared.scan.Write.{Write}
 use Rattle.apply_plan.specs.DueWrite.{Steps, written, progress_of, HaveTargets, writes_to_come, Spends}
 use Rattle.apply_plan.specs.Finishes as turn
@@ -31,9 +31,26 @@ use Rattle.node.specs.Ongoing.{IsOngoing, Stands, IsBroken}
 use Rattle.node.specs.IsNode.{IsNode}
 use Rattle.node.specs.LeastCores.{least_cores}
 use Rattle.node.specs.Orders.{directed_of, StepsBy, WritesBy, MissesBy, FinishesBy, left_of}
-use Rattle.node.specs.Rebalance.{Stepped, Writes, WritesMany, Misses, Ends, Finishes}
+use Rattle.node.specs.Rebalance.{Stepped, StepsOn, Writes, Misses, Finishes, phase_after}
 use Rattle.node.proofs.OrderLemmas.{StepLeft, OrdersLeave}
 use Rattle.node.proofs.StepLemmas.{its_steps, its_writes, its_misses, open_now, served_now, leaves, moved_on, ended_node, missed, missed_on, missed_node, wrote, wrote_node}
+
+-- so many of the writes, one after another
+abbrev pub WritesMany : ℕ → NodeState → NodeState → Type 0
+WritesMany zero old new = new ≡ old
+WritesMany (suc n) old new = (mid : NodeState) × Writes old mid × WritesMany n mid new
+
+-- what ends a hand-over: a step that finds no more to come, or one of the writes, which fails
+abbrev pub Ends : NodeState → Result (Unit {0}) KernelFault → NodeState → Type 0
+Ends old (Ok done) new = StepsOn old (Ok Done) new
+Ends old (Err fault) new = Misses old fault new
+
+-- a hand-over whose writes are made all at once, write by write
+pub record Goes (old : NodeState) (r : Result (Unit {0}) KernelFault) (new : NodeState) : Type 0 where
+  pub count : ℕ
+  pub mid : NodeState
+  pub writes : WritesMany count old mid
+  pub ends : Ends mid r new
 
 -- what a hand-over leaves that came to its end: a node in which each of its live containers has its target; and nothing
 -- changed but what its groups request
@@ -146,59 +163,6 @@ module _ (law : OrdersLeave) (o : Ongoing) where
           let node = subst (λ (n : NodeState). IsNode n) (sym more.1.is) (wrote_node law old h o was more.0.kernel (its_writes old o was more.0 more.1)) in
           earlier old more.0 new h was more.1 (all_writes count more.0 mid new node (ap (λ (n : NodeState). n.ongoing) more.1.is ∙ was) more.2 s)
 
-  pub settles : (old new : NodeState) → IsNode old → old.ongoing ≡ Some o → Finishes old (Ok tt) new → Settles o old new
-  settles old new h was f =
-      let e = all_writes (Ok Done) Settled (λ x y. Stepped x (Ok Done) Settled None y) last_step f.count old f.mid new h was f.writes f.ends in
-      let failures : new.kernel.failures ≡ old.kernel.failures + 0 = e.failures in
-      let spends : writes new.kernel + left_of o new.kernel ≤ writes old.kernel + left_of o old.kernel + 0 = e.spends in
-      record {
-        node = e.node;
-        targets = e.done refl;
-        rest = e.rest;
-        table = e.rest.table;
-        online = e.rest.online;
-        failures = omega (arith, failures);
-        made = λ is.
-            let exact : Spends o.targets old.kernel 0 new.kernel = e.exact is in
-            let none : writes_to_come o.targets new.kernel ≡ 0 = e.spent is refl in
-            omega (arith, exact, none);
-        few = omega (arith, spends);
-        machine = ap (λ (n : NodeState). n.machine) e.is;
-        parent = ap (λ (n : NodeState). n.parent) e.is;
-        containers = ap (λ (n : NodeState). n.containers) e.is;
-        pool = ap (λ (n : NodeState). n.pool) e.is;
-        phase = ap (λ (n : NodeState). n.phase) e.is;
-        ongoing = ap (λ (n : NodeState). n.ongoing) e.is;
-        last = ap (λ (n : NodeState). n.last) e.is;
-      }
-
-  pub breaks : (fault : KernelFault) (old new : NodeState) → IsNode old → old.ongoing ≡ Some o → Finishes old (Err fault) new → Breaks o fault old new
-  breaks fault old new h was f =
-      let e = all_writes (Err fault) Unsettled (λ x y. Misses x fault y) (last_miss fault) f.count old f.mid new h was f.writes f.ends in
-      let failed : fault ≡ Failed = e.failed in
-      let failures : new.kernel.failures ≡ old.kernel.failures + 1 = e.failures ∙ ap (λ x. old.kernel.failures + rise {A = Progress} (Err x)) failed in
-      record {
-        node = e.node;
-        broken = record { since = e.ongoing.since; rest = e.rest };
-        failed = failed;
-        failures = failures;
-        few = (let spends : writes new.kernel + left_of o new.kernel ≤ writes old.kernel + left_of o old.kernel + 1 =
-            subst (λ n. writes new.kernel + left_of o new.kernel ≤ writes old.kernel + left_of o old.kernel + n) (ap (λ x. rise {A = Progress} (Err x)) failed) e.spends in
-            omega (arith, spends));
-        machine = ap (λ (n : NodeState). n.machine) e.is;
-        parent = ap (λ (n : NodeState). n.parent) e.is;
-        containers = ap (λ (n : NodeState). n.containers) e.is;
-        pool = ap (λ (n : NodeState). n.pool) e.is;
-        phase = ap (λ (n : NodeState). n.phase) e.is;
-        ongoing = ap (λ (n : NodeState). n.ongoing) e.is;
-        last = ap (λ (n : NodeState). n.last) e.is;
-      }
-
--- how a hand-over stands after its writes
-abbrev pub phase_after : Result (Unit {0}) KernelFault → Phase
-phase_after (Ok _) = Settled
-phase_after (Err fault) = Unsettled
-
 -- the writes of the open hand-over that are made at once, as those of the node
 module _ (o : Ongoing) where
   one_of : (old : NodeState) (k : KernelState) → old.ongoing ≡ Some o → (order : Order) → o.order ≡ order → WritesBy order old.machine o old.kernel k
@@ -233,7 +197,7 @@ module _ (o : Ongoing) where
     turn_end old last k (Err fault) s = s
 
     all_in_turn : (old : NodeState) (k : KernelState) (r : Result (Unit {0}) KernelFault) → old.ongoing ≡ Some o → turn.Finishes o.targets old.kernel r k
-        → Finishes old r (record old { kernel = k; phase = phase_after r; ongoing = None })
+        → Goes old r (record old { kernel = k; phase = phase_after r; ongoing = None })
     all_in_turn old k r was f = record {
       count = f.steps;
       mid = record old { kernel = f.mid };
@@ -264,7 +228,7 @@ module _ (o : Ongoing) where
 
     all_directly : (old : NodeState) (k : KernelState) (r : Result (Unit {0}) KernelFault) → old.ongoing ≡ Some o → IsOpen o.targets old.kernel
         → Serves (directed_of o) (least_cores old.machine) → FinishesDirectly (directed_of o) (least_cores old.machine) old.kernel r k
-        → Finishes old r (record old { kernel = k; phase = phase_after r; ongoing = None })
+        → Goes old r (record old { kernel = k; phase = phase_after r; ongoing = None })
     all_directly old k r was opened serves f =
         let d = directed_of o in
         let least = least_cores old.machine in
@@ -281,17 +245,77 @@ module _ (o : Ongoing) where
 
   all_of : (old : NodeState) (k : KernelState) (r : Result (Unit {0}) KernelFault) → old.ongoing ≡ Some o → IsOpen o.targets old.kernel
       → Serves (directed_of o) (least_cores old.machine) → (order : Order) → o.order ≡ order → FinishesBy order old.machine o old.kernel r k
-      → Finishes old r (record old { kernel = k; phase = phase_after r; ongoing = None })
+      → Goes old r (record old { kernel = k; phase = phase_after r; ongoing = None })
   all_of old k r was opened serves InTurn is f = all_in_turn is old k r was f
   all_of old k r was opened serves Directly is f = all_directly is old k r was opened serves f
+
+-- so it is of a hand-over of a node
+pub goes_of : (law : OrdersLeave) (old : NodeState) → IsNode old → (r : Result (Unit {0}) KernelFault) (new : NodeState) → Finishes old r new → Goes old r new
+goes_of law old h r new f =
+    subst (λ (n : NodeState). Goes old r n) (sym f.is)
+    (all_of f.handover old new.kernel r f.was (open_now law old h f.handover f.was) (served_now law old h f.handover f.was) f.handover.order refl f.makes)
+
+module _ (law : OrdersLeave) (o : Ongoing) where
+  pub settles : (old new : NodeState) → IsNode old → old.ongoing ≡ Some o → Finishes old (Ok tt) new → Settles o old new
+  settles old new h was finishes =
+      let f = goes_of law old h (Ok tt) new finishes in
+      let e = all_writes law o (Ok Done) Settled (λ x y. Stepped x (Ok Done) Settled None y) (last_step law o) f.count old f.mid new h was f.writes f.ends in
+      let failures : new.kernel.failures ≡ old.kernel.failures + 0 = e.failures in
+      let spends : writes new.kernel + left_of o new.kernel ≤ writes old.kernel + left_of o old.kernel + 0 = e.spends in
+      record {
+        node = e.node;
+        targets = e.done refl;
+        rest = e.rest;
+        table = e.rest.table;
+        online = e.rest.online;
+        failures = omega (arith, failures);
+        made = λ is.
+            let exact : Spends o.targets old.kernel 0 new.kernel = e.exact is in
+            let none : writes_to_come o.targets new.kernel ≡ 0 = e.spent is refl in
+            omega (arith, exact, none);
+        few = omega (arith, spends);
+        machine = ap (λ (n : NodeState). n.machine) e.is;
+        parent = ap (λ (n : NodeState). n.parent) e.is;
+        containers = ap (λ (n : NodeState). n.containers) e.is;
+        pool = ap (λ (n : NodeState). n.pool) e.is;
+        phase = ap (λ (n : NodeState). n.phase) e.is;
+        ongoing = ap (λ (n : NodeState). n.ongoing) e.is;
+        last = ap (λ (n : NodeState). n.last) e.is;
+      }
+
+  pub breaks : (fault : KernelFault) (old new : NodeState) → IsNode old → old.ongoing ≡ Some o → Finishes old (Err fault) new → Breaks o fault old new
+  breaks fault old new h was finishes =
+      let f = goes_of law old h (Err fault) new finishes in
+      let e = all_writes law o (Err fault) Unsettled (λ x y. Misses x fault y) (last_miss law o fault) f.count old f.mid new h was f.writes f.ends in
+      let failed : fault ≡ Failed = e.failed in
+      let failures : new.kernel.failures ≡ old.kernel.failures + 1 = e.failures ∙ ap (λ x. old.kernel.failures + rise {A = Progress} (Err x)) failed in
+      record {
+        node = e.node;
+        broken = record { since = e.ongoing.since; rest = e.rest };
+        failed = failed;
+        failures = failures;
+        few = (let spends : writes new.kernel + left_of o new.kernel ≤ writes old.kernel + left_of o old.kernel + 1 =
+            subst (λ n. writes new.kernel + left_of o new.kernel ≤ writes old.kernel + left_of o old.kernel + n) (ap (λ x. rise {A = Progress} (Err x)) failed) e.spends in
+            omega (arith, spends));
+        machine = ap (λ (n : NodeState). n.machine) e.is;
+        parent = ap (λ (n : NodeState). n.parent) e.is;
+        containers = ap (λ (n : NodeState). n.containers) e.is;
+        pool = ap (λ (n : NodeState). n.pool) e.is;
+        phase = ap (λ (n : NodeState). n.phase) e.is;
+        ongoing = ap (λ (n : NodeState). n.ongoing) e.is;
+        last = ap (λ (n : NodeState). n.last) e.is;
+      }
 
 -- the same of the node as the program keeps it
 module _ (law : OrdersLeave) (n : NodeState) (h : IsNode n) (o : Ongoing) (was : n.ongoing ≡ Some o) (k : KernelState) (r : Result (Unit {0}) KernelFault)
     (f : FinishesBy o.order n.machine o n.kernel r k) (x : Option Ongoing) (none : x ≡ None) where
   pub finished : (now : NodeState) → n ≡ now → Finishes now r (record n { kernel = k; phase = phase_after r; ongoing = x })
-  finished now is =
-      subst (λ (y : Option Ongoing). Finishes now r (record n { kernel = k; phase = phase_after r; ongoing = y })) (sym none)
-      (subst (λ (m : NodeState). Finishes m r (record n { kernel = k; phase = phase_after r; ongoing = None })) is (all_of o n k r was (open_now law n h o was) (served_now law n h o was) o.order refl f))
+  finished now is = subst (λ (m : NodeState). Finishes m r (record n { kernel = k; phase = phase_after r; ongoing = x })) is (record {
+    handover = o;
+    was = was;
+    makes = f;
+    is = ap (λ (y : Option Ongoing). record n { kernel = k; phase = phase_after r; ongoing = y }) none;
+  })
 
   node_after : (a : Result (Unit {0}) KernelFault) (new : NodeState) → Finishes n a new → IsNode new
   node_after (Ok _) new g = (settles law o n new h was g).node

@@ -24,13 +24,14 @@ use Rattle.node.specs.Updates.{Updates}
 use Rattle.node.specs.Calls.{NotLaunched, Ended, Places, Starts, Kills, Deletes}
 use Rattle.node.specs.Rows.{as_cpus}
 use Rattle.node.specs.Entries.{opened}
-use Rattle.node.specs.Rebalance.{StepsOn, Writes, WritesMany, Misses, Ends}
-use Rattle.node.specs.Machine.{Event, Step, IsOneWrite, IsOneStep, Run, RunsKeep, RunsStaySafe, RunsStayApart, RebalancesAreWrites, RebalancesAreSteps, WritesSqueezeOnlyStuck, RunsRebalance}
+use Rattle.node.specs.Rebalance.{StepsOn, Writes, Misses}
+use Rattle.node.specs.Machine.{Event, Step, IsOneWrite, IsOneStep, Run, RunsKeep, RunsStaySafe, RunsStayApart, RebalancesAreWrites, RebalancesAreSteps, DirectWritesKeep, RunsRebalance}
 use Rattle.node.specs.Machine.Event.{Create, Adopt, Update, Start, Kill, Delete, Rebalance, Begin, StepOn, WriteOn, MissOn, Ask, Fork, Exit, Offline, Online}
 use Rattle.node.proofs.NodeLemmas.{fork_node, exit_node, offline_node, online_node, end_node, remove_refused_node, created_node, not_created_node, updated_node, not_updated_node, deleted_node, started_node}
 use Rattle.node.proofs.OrderLemmas.{OrdersLeave}
 use Rattle.node.proofs.StepLemmas.{its_writes, its_misses, turn_step, turn_miss, more_node, ended_node, missed_node, wrote, wrote_node}
-use Rattle.node.proofs.HeadlineLemmas.{free_parents, begins_node, rebalances_node, rebalance_leaves}
+use Rattle.node.proofs.HeadlineLemmas.{free_parents, begun_node, begins_node, rebalances_node, rebalance_leaves}
+use Rattle.node.proofs.FinishLemmas.{WritesMany, Ends, goes_of}
 use Rattle.node.proofs.ListLemmas.{all_of_map}
 
 module _ (old : NodeState) (h : IsNode old) (new : NodeState) where
@@ -163,7 +164,7 @@ module _ (law : OrdersLeave) where
   runs_rebalance effects weigh parts first events order old answer new h r b = rebalance_leaves order old (runs_keep first events old h r) law effects weigh parts answer new b
 
 -- what ends a hand-over, as an event
-ending : Result (Unit {0}) KernelFault → Event
+abbrev ending : Result (Unit {0}) KernelFault → Event
 ending (Ok done) = StepOn (Ok Done)
 ending (Err fault) = MissOn fault
 
@@ -180,9 +181,10 @@ writes_run zero old mid new answer more ends =
 writes_run (suc count) old mid new answer more ends =
     let later = writes_run count more.0 mid new answer more.2 ends in (WriteOn ∷ later.0, (tt, later.1), (more.0, more.1, later.2))
 
-pub rebalances_are_writes : RebalancesAreWrites
-rebalances_are_writes order old total answer new m =
-    let writes = writes_run m.finishes.count m.mid m.finishes.mid new answer m.finishes.writes m.finishes.ends in
+pub rebalances_are_writes : OrdersLeave → RebalancesAreWrites
+rebalances_are_writes law order old total answer new h m =
+    let f = goes_of law m.mid (begun_node order old h total m.mid m.begun) answer new m.finishes in
+    let writes = writes_run f.count m.mid f.mid new answer f.writes f.ends in
     (writes.0, writes.1, (m.mid, m.begun, writes.2))
 
 -- in turn each of them is a step after which more are to come
@@ -206,7 +208,7 @@ module _ (o : Ongoing) (in_turn : o.order ≡ InTurn) where
     is = s.is;
   }
 
-  last_step : Result (Unit {0}) KernelFault → Event
+  abbrev last_step : Result (Unit {0}) KernelFault → Event
   last_step (Ok done) = StepOn (Ok Done)
   last_step (Err fault) = StepOn (Err (Kernel fault))
 
@@ -224,12 +226,14 @@ module _ (o : Ongoing) (in_turn : o.order ≡ InTurn) where
       let later = steps_run count more.0 mid new answer still more.2 ends in
       (StepOn (Ok More) ∷ later.0, (tt, later.1), (more.0, one_step old more.0 was more.1, later.2))
 
-pub rebalances_are_steps : RebalancesAreSteps
-rebalances_are_steps old total answer new m =
+pub rebalances_are_steps : OrdersLeave → RebalancesAreSteps
+rebalances_are_steps law old total answer new h m =
     let b = m.begun in
-    let steps = steps_run (opened InTurn old (as_cpus old.machine b.plan)) refl m.finishes.count m.mid m.finishes.mid new answer
-        (ap (λ (n : NodeState). n.ongoing) b.is) m.finishes.writes m.finishes.ends in
+    let f = goes_of law m.mid (begun_node InTurn old h total m.mid b) answer new m.finishes in
+    let steps = steps_run (opened InTurn old (as_cpus old.machine b.plan)) refl f.count m.mid f.mid new answer (ap (λ (n : NodeState). n.ongoing) b.is) f.writes f.ends in
     (steps.0, steps.1, (m.mid, b, steps.2))
 
-pub writes_squeeze_only_stuck : OrdersLeave → WritesSqueezeOnlyStuck
-writes_squeeze_only_stuck law old new o h s was directly = (wrote law old h o was new.kernel (its_writes old o was new s)).squeezes directly
+pub direct_writes_keep : OrdersLeave → DirectWritesKeep
+direct_writes_keep law old new o h s was directly =
+    let left = wrote law old h o was new.kernel (its_writes old o was new s) in
+    record { stuck = left.squeezes directly; way = left.way directly }

@@ -36,6 +36,7 @@ use Rattle.apply_plan.specs.RunLemmas.{steps_leave, ends_within}
 use Rattle.apply_plan.specs.HandoverLemmas.{at_most_two}
 use Rattle.apply_plan.specs.MayWrite.{OnWay, left_directly}
 use Rattle.apply_plan.specs.Directed.{Directed, allowed_of, Least, Serves}
+use Rattle.apply_plan.specs.OnWay.{AreOnWay}
 use Rattle.apply_plan.specs.DirectWrite.{due_directly, StepsDirectly}
 use Rattle.apply_plan.specs.DirectStepLemmas.{due_if_moves}
 use Rattle.apply_plan.specs.DirectLemmas.{few_left}
@@ -76,6 +77,7 @@ pub record StepLeft (order : Order) (m : Layout) (o : Ongoing) (old : KernelStat
   pub exact : order ≡ InTurn → Spends o.targets old (rise r) new
   pub spent : order ≡ InTurn → r ≡ Ok Done → writes_to_come o.targets new ≡ 0
   pub squeezes : order ≡ Directly → SqueezesOnlyStuck (directed_of o) (least_cores m) old new
+  pub way : order ≡ Directly → AreOnWay (directed_of o) old new
   pub kernel : StepKeeps old new
 
 -- what one of the writes leaves that are made all at once
@@ -88,6 +90,7 @@ pub record WriteLeft (order : Order) (m : Layout) (o : Ongoing) (old new : Kerne
   pub spends : writes new + left_by order o.targets new ≤ writes old + left_by order o.targets old
   pub exact : order ≡ InTurn → Spends o.targets old 0 new
   pub squeezes : order ≡ Directly → SqueezesOnlyStuck (directed_of o) (least_cores m) old new
+  pub way : order ≡ Directly → AreOnWay (directed_of o) old new
   pub kernel : StepKeeps old new
 
 -- each step leaves this, and each of the writes; one that fails leaves what a step does that fails
@@ -156,6 +159,11 @@ module _ (o : Ongoing) (old new : KernelState) (valid : IsHandover o.targets) (r
       (λ e found w s. way_on old new o.targets.reserved (allowed_of (directed_of o) e) e found w s) o.targets.entries o.requested_at_begin way
       (subst (λ s. AllZip (λ e found. IsOnWay old s (allowed_of (directed_of o) e) e found) o.targets.entries o.requested_at_begin) (sym reserve) since))
 
+-- at first each container is on its way
+on_way_at_first : (o : Ongoing) (k : KernelState) → AreOnWay (directed_of o) k k
+on_way_at_first o k =
+    all_of (λ e. OnWay o.targets.reserved (allowed_of (directed_of o) e) k e (held k e)) (λ e. record { keeps = λ q h t. h; within = λ q h. inl h }) o.targets.entries
+
 -- where a step answers that more are to come, one write is due
 one_due : (w : Option Write) → More ≡ progress_of w → 1 ≤ cond (is_some w) 1 0
 one_due (Some w) more = omega arith
@@ -197,6 +205,7 @@ module _ (m : Layout) (o : Ongoing) (old new : KernelState) where
         exact = λ _. spends;
         spent = λ _. left.spent;
         squeezes = λ is. absurd (let x : ⊥ = cc is in x);
+        way = λ is. absurd (let x : ⊥ = cc is in x);
         kernel = left.kernel;
       }
 
@@ -234,7 +243,7 @@ module _ (m : Layout) (o : Ongoing) (old new : KernelState) where
         fewer = left.falls;
         more = direct_more law serves left.open_still r s;
         since = λ reserve. since_directly o old new opened.handover left.rest reserve
-            (left.on_way old (all_of (λ e. OnWay o.targets.reserved (allowed_of d e) old e (held old e)) (λ e. record { keeps = λ q h t. h; within = λ q h. inl h }) o.targets.entries));
+            (left.on_way old (on_way_at_first o old));
         counted = left.counted;
         failed = direct_failed r s;
         made = left.made;
@@ -242,6 +251,7 @@ module _ (m : Layout) (o : Ongoing) (old new : KernelState) where
         exact = λ is. absurd (let x : ⊥ = cc is in x);
         spent = λ is. absurd (let x : ⊥ = cc is in x);
         squeezes = λ _. left.squeezes;
+        way = λ _. left.on_way old (on_way_at_first o old);
         kernel = left.kernel;
       }
 
@@ -260,13 +270,14 @@ module _ (m : Layout) (o : Ongoing) (old : KernelState) (w : Write) where
     rest = left.rest;
     fewer = left.fewer;
     since = λ reserve. since_directly o old next opened.handover left.rest reserve
-        (left.on_way old (all_of (λ e. OnWay o.targets.reserved (allowed_of (directed_of o) e) old e (held old e)) (λ e. record { keeps = λ q h t. h; within = λ q h. inl h }) o.targets.entries));
+        (left.on_way old (on_way_at_first o old));
     counted = refl;
     spends = (let fewer : left_directly o.targets next + 1 ≤ left_directly o.targets old = left.fewer in
         let one : writes next ≡ writes old + 1 = omega arith in
         omega (arith, fewer, one));
     exact = λ is. absurd (let x : ⊥ = cc is in x);
     squeezes = λ _. left.squeezes;
+    way = λ _. left.on_way old (on_way_at_first o old);
     kernel = left.kernel;
   }
 
@@ -289,6 +300,8 @@ module _ (m : Layout) (o : Ongoing) (old : KernelState) (w : Write) (serves : Se
         mems = λ g. refl;
         others = λ g o. refl;
       } in
+      let way : AreOnWay d old lost =
+      all_of (λ e. OnWay o.targets.reserved (allowed_of d e) old e (held lost e)) (λ e. record { keeps = λ q h t. h; within = λ q h. inl h }) o.targets.entries in
       let one : writes lost ≡ writes old + 1 = missed_makes (Some w) old in
       record {
         open_still = missed_kernel d least serves old lost opened (Some w);
@@ -299,7 +312,7 @@ module _ (m : Layout) (o : Ongoing) (old : KernelState) (w : Write) (serves : Se
         fewer = λ is. absurd (let x : ⊥ = cc is in x);
         more = λ is. absurd (let x : ⊥ = cc is in x);
         since = λ reserve. since_directly o old lost opened.handover rest reserve
-            (all_of (λ e. OnWay o.targets.reserved (allowed_of d e) old e (held lost e)) (λ e. record { keeps = λ q h t. h; within = λ q h. inl h }) o.targets.entries);
+            way;
         counted = refl;
         failed = refl;
         made = one ∙ ap (λ b. writes old + cond b 1 0) (sym some);
@@ -307,6 +320,7 @@ module _ (m : Layout) (o : Ongoing) (old : KernelState) (w : Write) (serves : Se
         exact = λ is. absurd (let x : ⊥ = cc is in x);
         spent = λ is. absurd (let x : ⊥ = cc is in x);
         squeezes = λ _. none_squeezed d opened.handover least serves old opened.placed lost (λ a. refl);
+        way = λ _. way;
         kernel = whatever_is_told old old (old.failures + 1) (asks_for (Some w) (Err Failed) ++ old.trace) (keeps_itself old opened.well_formed);
       }
 
@@ -324,6 +338,7 @@ write_in_turn m o old new left =
       spends = omega (arith, spends);
       exact = left.exact;
       squeezes = left.squeezes;
+      way = left.way;
       kernel = left.kernel;
     }
 

@@ -75,7 +75,7 @@ module _ (law : OrdersLeave) (weigh : RowsWeigh) (parts : ScaledRowsWeigh) where
   calm : (total : ℕ) (calls : List Called) (old new : NodeState) → IsNode old → PlanStands old total → Run old (calls_of calls) new → Calm old (answers_of calls) new
   calm total [] old new h stands run = record { each = tt; none = refl; kernel = ap (λ (n : NodeState). n.kernel) run }
   calm total ((order, answer) ∷ later) old new h stands (mid, step, run) =
-      by answer step (plan_is_kept order old h total stands weigh parts answer mid step) (λ node found still. calm found later mid new node still run) where
+      by answer step (plan_is_kept law order old h total stands weigh parts answer mid step) (λ node found still. calm found later mid new node still run) where
         by : (a : Answer) → Rebalances order old a mid → KeepsPlan old total a mid
             → (IsNode mid → (found : ℕ) → PlanStands mid found → Calm mid (answers_of later) new) → Calm old (a ∷ answers_of later) new
         by (Ok (Plan found)) m kept rest =

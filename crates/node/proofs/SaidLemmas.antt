@@ -1,5 +1,5 @@
 -- What each container asks for is what the config says that was read for it last.
-use Rattle.std.proofs.Common.{◌≡◌, ◌⊎◌, inl, inr, ℕ, false, cond, zero, suc, List, [], ◌∷◌, ◌++◌, Some, None, refl, sym, ap, ◌∙◌, subst, append_assoc, arith}
+use Rattle.std.proofs.Common.{◌≡◌, ◌⊎◌, inl, inr, ℕ, false, cond, List, [], ◌∷◌, ◌++◌, Some, None, refl, sym, ap, ◌∙◌, subst, append_assoc, arith}
 use Rattle.std.proofs.lemmas.List.{append-nil}
 use Rattle.std.proofs.lemmas.List.Elements.{Contains-append_left, Contains-append_right}
 use Rattle.std.proofs.lemmas.Option.{none-some}
@@ -26,7 +26,7 @@ use Rattle.node.specs.declared.phase.Phase.TheVariants.{Unsettled}
 use Rattle.node.specs.NodeState.{ContainerState, NodeState}
 use Rattle.node.specs.Updates.{Updates}
 use Rattle.node.specs.Calls.{Places, Starts, Kills, Deletes}
-use Rattle.node.specs.Rebalance.{Begins, StepsOn, WritesMany, Moves, Rebalances}
+use Rattle.node.specs.Rebalance.{Begins, StepsOn, Moves, Rebalances, phase_after}
 use Rattle.node.specs.Machine.{Event, Step, Run}
 use Rattle.node.specs.Machine.Event.{Create, Adopt, Update, Start, Kill, Delete, Rebalance, Begin, StepOn, WriteOn, MissOn, Ask, Fork, Exit, Offline, Online}
 use Rattle.node.specs.Said.{IsMadeOf, reads_for, IsAskedIn, IsSaid, ContainersAreSaid}
@@ -78,17 +78,9 @@ module _ (P : Layout → Entries → Type 0) where
   step_keeps old new (Err NoHandover) s h = moved old new s.1 h
   step_keeps old new (Err fault) s h = absurd s
 
-  writes_keep : (count : ℕ) (old new : NodeState) → WritesMany count old new → Of old → Of new
-  writes_keep zero old new more h = moved old new more h
-  writes_keep (suc count) old new more h = writes_keep count more.0 new more.2 (moved (record old { kernel = more.0.kernel }) more.0 more.1.is h)
-
   moves_keep : (order : Order) (old new : NodeState) (total : ℕ) (r : Result (Unit {0}) KernelFault) → Moves order old total r new → Of old → Of new
-  moves_keep order old new total (Ok v) m h =
-      step_keeps m.finishes.mid new (Ok Done) m.finishes.ends
-      (writes_keep m.finishes.count m.mid m.finishes.mid m.finishes.writes (begin_keeps order old m.mid (Ok (Plan total)) m.begun h))
-  moves_keep order old new total (Err fault) m h =
-      moved (record m.finishes.mid { kernel = new.kernel; phase = Unsettled; ongoing = None }) new m.finishes.ends.is
-      (writes_keep m.finishes.count m.mid m.finishes.mid m.finishes.writes (begin_keeps order old m.mid (Ok (Plan total)) m.begun h))
+  moves_keep order old new total r m h =
+      moved (record m.mid { kernel = new.kernel; phase = phase_after r; ongoing = None }) new m.finishes.is (begin_keeps order old m.mid (Ok (Plan total)) m.begun h)
 
   pub rebalance_keeps : (order : Order) (old new : NodeState) (r : Result Outcome (OrMemory NodeFault)) → Rebalances order old r new → Of old → Of new
   rebalance_keeps order old new (Ok (Plan total)) b h = moves_keep order old new total (Ok tt) b h

@@ -21,7 +21,7 @@ use Rattle.certificate.specs.declared.certificates.Certificate.{Certificate}
 use Rattle.rows.specs.Scaled.{ScaledRowsWeigh}
 use Rattle.rows.specs.Weighs.{RowsWeigh}
 use Rattle.apply_plan.specs.declared.Progress.{Progress}
-use Rattle.apply_plan.specs.declared.Progress.TheVariants.{More, Done}
+use Rattle.apply_plan.specs.declared.Progress.TheVariants.{Done}
 use Rattle.apply_plan.specs.DueLemmas.{holds_its_target}
 use Rattle.apply_plan.specs.DueWrite.{must_move, HasTarget}
 use Rattle.node.specs.declared.fault.NodeFault.{NodeFault}
@@ -38,12 +38,12 @@ use Rattle.node.specs.Rows.{as_cpus, requested_by, planned}
 use Rattle.node.specs.Best.{AreOwn, is_asking, asking, wanted_by, CouldHave, distance, total_distance, moved_by, moved, IsBest}
 use Rattle.node.specs.Entries.{pool_of, Target, entry_of, plan_pool, plan_targets, plan_entries, opened}
 use Rattle.node.specs.Orders.{StepsBy, WritesBy, MissesBy}
-use Rattle.node.specs.Rebalance.{Begun, StepsOn, Writes, WritesMany, Misses, Moves, Finishes, Rebalances}
+use Rattle.node.specs.Rebalance.{Begun, StepsOn, Writes, Misses, Moves, Finishes, Rebalances}
 use Rattle.node.specs.Standing.{requested_sets, HasPool, PlanStands, KeepsPlan, StandingPlansAreKept, AnsweredPlansStand, SecondsKeepPlans}
 use Rattle.node.proofs.ListLemmas.{all_of, all_of_map, of_all_map, all_map, zip_map}
 use Rattle.node.proofs.AskingLemmas.{short_stands}
 use Rattle.node.proofs.DistanceLemmas.{there_in_range, online_there}
-use Rattle.node.proofs.FinishLemmas.{Settles, settles}
+use Rattle.node.proofs.FinishLemmas.{WritesMany, Goes, goes_of, Settles, settles}
 use Rattle.node.proofs.HeadlineLemmas.{begun_node, rebalances_node}
 use Rattle.node.proofs.OrderLemmas.{OrdersLeave, it_rests, none_misses, none_writes}
 use Rattle.node.proofs.PlanLemmas.{IsDealt, over_targets, opened_ongoing, plan_placed}
@@ -181,7 +181,7 @@ module _ (o : Ongoing) (n : NodeState) (was : n.ongoing ≡ Some o)
   first_holds zero fault mid new more ends = none_fails fault new (subst (λ (x : NodeState). Misses x fault new) more ends)
   first_holds (suc count) fault mid new more ends = no_more more.0 more.1
 
-module _ (order : Order) (old : NodeState) (h : IsNode old) (total : ℕ) (stands : PlanStands old total) where
+module _ (law : OrdersLeave) (order : Order) (old : NodeState) (h : IsNode old) (total : ℕ) (stands : PlanStands old total) where
   -- the hand-over to the plan that stands
   abbrev begun : Option Certificate → NodeState
   begun last = record old { pool = plan_pool old (requested_sets old); phase = Underway; ongoing = Some (opened order old (requested_sets old)); last = last }
@@ -229,11 +229,15 @@ module _ (order : Order) (old : NodeState) (h : IsNode old) (total : ℕ) (stand
       ∙ ap (λ (c : Option Certificate). record old { pool = plan_pool old (requested_sets old); phase = Settled; ongoing = None; last = c })
       (sym (ap (λ (n : NodeState). n.last) is))
 
+  begun_is_node : (found : ℕ) (mid : NodeState) (b : Begun order old found mid) → IsNode (begun (Some (planned old b.plan b.prices b.whole)))
+  begun_is_node found mid b = subst (λ (n : NodeState). IsNode n) (begun_as found mid b) (begun_node order old h found mid b)
+
   plan_kept : (found : ℕ) (new : NodeState) (m : Moves order old found (Ok tt) new) → KeepsPlan old total (Ok (Plan found)) new
   plan_kept found new m =
       let b = m.begun in
       let last : Option Certificate = Some (planned old b.plan b.prices b.whole) in
-      let f : Finishes (begun last) (Ok tt) new = subst (λ (n : NodeState). Finishes n (Ok tt) new) (begun_as found m.mid b) m.finishes in (
+      let f : Goes (begun last) (Ok tt) new =
+      goes_of law (begun last) (begun_is_node found m.mid b) (Ok tt) new (subst (λ (n : NodeState). Finishes n (Ok tt) new) (begun_as found m.mid b) m.finishes) in (
         same_total old h total found (sets_of b) stands.best b.best,
         as_left last new (first_ends (opened order old (requested_sets old)) (begun last) refl rests_then holds_then lasts_then f.count f.mid new f.writes f.ends),
       )
@@ -242,7 +246,8 @@ module _ (order : Order) (old : NodeState) (h : IsNode old) (total : ℕ) (stand
   none_breaks found fault new m =
       let b = m.begun in
       let last : Option Certificate = Some (planned old b.plan b.prices b.whole) in
-      let f : Finishes (begun last) (Err fault) new = subst (λ (n : NodeState). Finishes n (Err fault) new) (begun_as found m.mid b) m.finishes in
+      let f : Goes (begun last) (Err fault) new =
+      goes_of law (begun last) (begun_is_node found m.mid b) (Err fault) new (subst (λ (n : NodeState). Finishes n (Err fault) new) (begun_as found m.mid b) m.finishes) in
       first_holds (opened order old (requested_sets old)) (begun last) refl rests_then holds_then lasts_then f.count fault f.mid new f.writes f.ends
 
   pub plan_is_kept : RowsWeigh → ScaledRowsWeigh → (answer : Result Outcome (OrMemory NodeFault)) (new : NodeState) → Rebalances order old answer new
@@ -384,8 +389,8 @@ module _ (law : OrdersLeave) where
       total b.best
 
   pub standing_plans_are_kept : RowsWeigh → ScaledRowsWeigh → StandingPlansAreKept
-  standing_plans_are_kept weigh parts order old total answer new h stands r = plan_is_kept order old h total stands weigh parts answer new r
+  standing_plans_are_kept weigh parts order old total answer new h stands r = plan_is_kept law order old h total stands weigh parts answer new r
 
   pub seconds_keep_plans : RowsWeigh → ScaledRowsWeigh → SecondsKeepPlans
   seconds_keep_plans weigh parts before after first total old answer new h m r =
-      plan_is_kept after old (rebalances_node before first h law (Ok (Plan total)) old m) total (answered_plans_stand before first total old h m) weigh parts answer new r
+      plan_is_kept law after old (rebalances_node before first h law (Ok (Plan total)) old m) total (answered_plans_stand before first total old h m) weigh parts answer new r

@@ -17,6 +17,7 @@ use Rattle.apply_plan.specs.DueWrite.{HaveTargets}
 use Rattle.apply_plan.specs.Leaves.{KeepsRest}
 use Rattle.apply_plan.specs.Runs.{IsOpen}
 use Rattle.apply_plan.specs.Directed.{Serves}
+use Rattle.apply_plan.specs.OnWay.{AreOnWay}
 use Rattle.apply_plan.specs.Squeezes.{SqueezesOnlyStuck}
 use Rattle.machine.specs.Layout.{Layout}
 use Rattle.node.specs.declared.fault.NodeFault.{NodeFault}
@@ -300,6 +301,7 @@ pub record Says (old : NodeState) (o : Ongoing) (r : Result Progress NodeFault) 
   pub broken : OnErr r (IsBroken o old.kernel new.kernel)
   pub made : writes new.kernel ≡ writes old.kernel + made_by o.order old.machine o old.kernel
   pub squeezes : o.order ≡ Directly → SqueezesOnlyStuck (directed_of o) (least_cores old.machine) old.kernel new.kernel
+  pub way : o.order ≡ Directly → AreOnWay (directed_of o) old.kernel new.kernel
 
 module _ (law : OrdersLeave) (old : NodeState) (h : IsNode old) where
   -- where none was open, nothing is said
@@ -308,10 +310,10 @@ module _ (law : OrdersLeave) (old : NodeState) (h : IsNode old) where
       by_answer old (Says old o)
       (λ new s.
       let left = leaves law old h o was new.kernel (Ok More) (its_steps old o was new (Ok More) old.phase old.ongoing s) in
-      record { falls = λ _. left.falls refl; done = λ e. absurd (let x : ⊥ = cc e in x); broken = tt; made = left.made; squeezes = left.squeezes })
+      record { falls = λ _. left.falls refl; done = λ e. absurd (let x : ⊥ = cc e in x); broken = tt; made = left.made; squeezes = left.squeezes; way = left.way })
       (λ new s.
       let left = leaves law old h o was new.kernel (Ok Done) (its_steps old o was new (Ok Done) Settled None s) in
-      record { falls = λ e. absurd (let x : ⊥ = cc e in x); done = λ _. left.done refl; broken = tt; made = left.made; squeezes = left.squeezes })
+      record { falls = λ e. absurd (let x : ⊥ = cc e in x); done = λ _. left.done refl; broken = tt; made = left.made; squeezes = left.squeezes; way = left.way })
       (λ fault new s.
       let steps = its_steps old o was new (Err fault) Unsettled None s in
       let left = leaves law old h o was new.kernel (Err fault) steps in
@@ -321,6 +323,7 @@ module _ (law : OrdersLeave) (old : NodeState) (h : IsNode old) where
         broken = broken law old h o was new.kernel (Err fault) steps;
         made = left.made;
         squeezes = left.squeezes;
+        way = left.way;
       })
       (λ new settled same. absurd (none-some o (sym (none_open old.kernel (owners_of old.containers) (is_underway old.phase) settled old.ongoing h.stands) ∙ was)))
 

@@ -1,5 +1,5 @@
 -- The writes of a hand-over one by one, and how many of them are of one container.
-use Rattle.std.specs.Prelude.{◌≡◌, ℕ, zero, suc, ◌+◌, ◌≤◌, true, false, List, [], ◌∷◌, filter, length, Option, Some, None, Result, Ok, Err}
+use Rattle.std.specs.Prelude.{◌≡◌, ℕ, zero, suc, ◌+◌, ◌≤◌, true, false, List, [], ◌∷◌, length, Option, Some, None, Result}
 use Rattle.std.specs.List.{AllByRecursion}
 use Rattle.std.specs.FinSet as set
 use Rattle.cpu_set.specs.Ids.{Ids, IsDisjoint}
@@ -8,38 +8,43 @@ use Rattle.cpuset_tree.specs.Groups.{same_group}
 use Rattle.kernel_model.specs.declared.KernelFault.{KernelFault}
 use Rattle.kernel_model.specs.KernelState.{KernelState, writes}
 use Rattle.apply_plan.specs.declared.scan.Write.{Write}
+use Rattle.apply_plan.specs.Targets.{Targets}
 use Rattle.apply_plan.specs.DueWrite.{due}
-use Rattle.node.specs.declared.order.Order.TheVariants.{InTurn}
-use Rattle.node.specs.NodeState.{NodeState}
+use Rattle.apply_plan.specs.MayWrite.{times_written}
+use Rattle.apply_plan.specs.Finishes as turn
+use Rattle.direct_finish.specs.FinishesDirectly.{asked_for}
+use Rattle.machine.specs.Layout.{Layout}
+use Rattle.node.specs.declared.order.Order.{Order}
+use Rattle.node.specs.declared.order.Order.TheVariants.{InTurn, Directly}
+use Rattle.node.specs.NodeState.{Ongoing, NodeState}
+use Rattle.node.specs.LeastCores.{least_cores}
 use Rattle.node.specs.IsNode.{IsNode}
 use Rattle.node.specs.Rows.{as_cpus, requested_by}
 use Rattle.node.specs.Entries.{Target, plan_targets}
-use Rattle.node.specs.Rebalance.{WritesMany, Ends, Moves}
+use Rattle.node.specs.Orders.{directed_of, FinishesBy}
+use Rattle.node.specs.Rebalance.{Moves}
 
 -- a write before others, where one is due
 abbrev pub before : Option Write → List Write → List Write
 before None later = later
 before (Some w) later = w ∷ later
 
--- the write that the last step of a hand-over asks the kernel for, whether it fails or not
-abbrev pub last_write : (old : NodeState) (r : Result (Unit {0}) KernelFault) (new : NodeState) → Ends old r new → List Write
-last_write old (Ok done) new s = before (due s.handover.targets old.kernel) []
-last_write old (Err fault) new s = before (due s.handover.targets old.kernel) []
+-- the writes of steps in turn after which more are to come, before others
+abbrev pub turn_writes : (h : Targets) (count : ℕ) (old new : KernelState) → turn.StepsMore h count old new → List Write → List Write
+turn_writes h zero old new same later = later
+turn_writes h (suc count) old new (mid, step, more) later = before (due h old) (turn_writes h count mid new more later)
 
--- those before it, in turn, before others: in the order in which the kernel is asked for them
-abbrev pub writes_of_many : (count : ℕ) (old new : NodeState) → WritesMany count old new → List Write → List Write
-writes_of_many zero old new more later = later
-writes_of_many (suc count) old new more later =
-    before (due more.1.handover.targets old.kernel) (writes_of_many count more.0 new more.2 later)
+-- the writes that a hand-over asks the kernel for, in order, and the one that fails among them
+abbrev pub asked_by : (order : Order) (m : Layout) (o : Ongoing) (old : KernelState) (r : Result (Unit {0}) KernelFault) (new : KernelState)
+    → FinishesBy order m o old r new → List Write
+asked_by InTurn m o old r new f = turn_writes o.targets f.steps old f.mid f.more (before (due o.targets f.mid) [])
+asked_by Directly m o old r new f = asked_for (directed_of o) (least_cores m) old r new f
 
--- those of a hand-over to a plan in turn, from `begin` on, which asks for none
-abbrev pub writes_of_moves : (old : NodeState) (total : ℕ) (r : Result (Unit {0}) KernelFault) (new : NodeState) → Moves InTurn old total r new → List Write
-writes_of_moves old total r new m =
-    writes_of_many m.finishes.count m.mid m.finishes.mid m.finishes.writes (last_write m.finishes.mid r new m.finishes.ends)
-
--- how many of the writes are of this group
-abbrev pub times_written : Group → List Write → ℕ
-times_written g these = length (filter (λ w. same_group w.group g) these)
+-- those of a hand-over to a plan, from `begin` on, which asks for none
+abbrev pub writes_of_moves : (order : Order) (old : NodeState) (total : ℕ) (r : Result (Unit {0}) KernelFault) (new : NodeState) → Moves order old total r new → List Write
+writes_of_moves order old total r new m =
+    let f = m.finishes in
+    asked_by f.handover.order m.mid.machine f.handover m.mid.kernel r new.kernel f.makes
 
 -- how often a live container is written that is to have these CPUs. One that requests them already is not at all. One that
 -- lets nothing go but reserved CPUs, as it only gets more, is written once at most. So is one that only lets go, none of them
@@ -58,8 +63,8 @@ pub record WritesLittle (old : NodeState) (sets : List Ids) (these : List Write)
   pub each : AllByRecursion (IsLittleWritten old.kernel old.machine.reserved these) (plan_targets old sets)
   pub others : (g : Group) → AllByRecursion (λ p. same_group p.0.1.group g ≡ false) (plan_targets old sets) → times_written g these ≡ 0
 
--- a rebalance to a plan writes so little, whether it comes to its end or a write fails
+-- a rebalance to a plan writes so little in either order, whether it comes to its end or a write fails
 abbrev pub RebalancesWriteLittle : Type 0
 RebalancesWriteLittle =
-    (old : NodeState) (total : ℕ) (r : Result (Unit {0}) KernelFault) (new : NodeState) → IsNode old → (m : Moves InTurn old total r new)
-    → WritesLittle old (as_cpus old.machine m.begun.plan) (writes_of_moves old total r new m) new
+    (order : Order) (old : NodeState) (total : ℕ) (r : Result (Unit {0}) KernelFault) (new : NodeState) → IsNode old → (m : Moves order old total r new)
+    → WritesLittle old (as_cpus old.machine m.begun.plan) (writes_of_moves order old total r new m) new

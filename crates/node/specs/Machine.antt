@@ -12,6 +12,7 @@ use Rattle.faults.specs.declared.OrMemory.{OrMemory}
 use Rattle.apply_plan.specs.declared.Progress.{Progress}
 use Rattle.apply_plan.specs.Holders.{AreSafe, IsSafe}
 use Rattle.apply_plan.specs.Effects.{HasOnline}
+use Rattle.apply_plan.specs.OnWay.{AreOnWay}
 use Rattle.apply_plan.specs.Squeezes.{SqueezesOnlyStuck}
 use Rattle.node.specs.declared.fault.NodeFault.{NodeFault}
 use Rattle.node.specs.declared.order.Order.{Order}
@@ -112,7 +113,7 @@ IsOneWrite event = ⊥
 -- of these holds of what it leaves, wherever a write fails.
 abbrev pub RebalancesAreWrites : Type 0
 RebalancesAreWrites =
-    (order : Order) (old : NodeState) (total : ℕ) (answer : Result (Unit {0}) KernelFault) (new : NodeState) → Moves order old total answer new
+    (order : Order) (old : NodeState) (total : ℕ) (answer : Result (Unit {0}) KernelFault) (new : NodeState) → IsNode old → Moves order old total answer new
     → (writes : List Event) × AllByRecursion IsOneWrite writes × Run old (Begin order (Ok (Plan total)) ∷ writes) new
 
 -- in turn each of them is a step
@@ -123,14 +124,17 @@ IsOneStep event = ⊥
 -- so a rebalance in turn leaves what `begin` and then steps alone leave
 abbrev pub RebalancesAreSteps : Type 0
 RebalancesAreSteps =
-    (old : NodeState) (total : ℕ) (answer : Result (Unit {0}) KernelFault) (new : NodeState) → Moves InTurn old total answer new
+    (old : NodeState) (total : ℕ) (answer : Result (Unit {0}) KernelFault) (new : NodeState) → IsNode old → Moves InTurn old total answer new
     → (steps : List Event) × AllByRecursion IsOneStep steps × Run old (Begin InTurn (Ok (Plan total)) ∷ steps) new
 
--- a write of a direct hand-over squeezes only one that is stuck in a ring
-abbrev pub WritesSqueezeOnlyStuck : Type 0
-WritesSqueezeOnlyStuck =
-    (old new : NodeState) (o : Ongoing) → IsNode old → Step old WriteOn new → old.ongoing ≡ Some o → o.order ≡ Directly
-    → SqueezesOnlyStuck (directed_of o) (least_cores old.machine) old.kernel new.kernel
+-- a write of a direct hand-over squeezes only one that is stuck in a ring, and each container keeps what it has of its target
+pub record GoesDirectly (o : Ongoing) (old new : NodeState) : Type 0 where
+  pub stuck : SqueezesOnlyStuck (directed_of o) (least_cores old.machine) old.kernel new.kernel
+  pub way : AreOnWay (directed_of o) old.kernel new.kernel
+
+-- so it is after each
+abbrev pub DirectWritesKeep : Type 0
+DirectWritesKeep = (old new : NodeState) (o : Ongoing) → IsNode old → Step old WriteOn new → old.ongoing ≡ Some o → o.order ≡ Directly → GoesDirectly o old new
 
 -- after any list of them a rebalance leaves what the headline says of its answer. With it stand what the certificate tells
 -- and what a failed write leaves.

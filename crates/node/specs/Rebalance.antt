@@ -1,5 +1,5 @@
 -- Plans and the hand-overs to them, each call a relation by cases on what it answers.
-use Rattle.std.specs.Prelude.{◌≡◌, ◌*◌, ℕ, suc, zero, true, false, List, Option, Some, None, Result, Ok, Err}
+use Rattle.std.specs.Prelude.{◌≡◌, ◌*◌, ℕ, true, false, List, Option, Some, None, Result, Ok, Err}
 use Rattle.std.specs.FinSet as set
 use Rattle.cpu_set.specs.Ids.{Ids}
 use Rattle.cpu_set.specs.Members.{InRange}
@@ -32,7 +32,7 @@ use Rattle.node.specs.IsNode.{IsKept}
 use Rattle.node.specs.Rows.{as_cpus, rows_of, scaled_rows_of, planned, lacking}
 use Rattle.node.specs.Best.{moved, IsBest}
 use Rattle.node.specs.Entries.{plan_pool, opened}
-use Rattle.node.specs.Orders.{StepsBy, WritesBy, MissesBy}
+use Rattle.node.specs.Orders.{StepsBy, WritesBy, MissesBy, FinishesBy}
 
 -- what a node's scaled rows come to as a plan of cores. Their CPUs are the best sets that the containers could have. It is a
 -- least plan of these rows, with the cores' distance and their moves as its total.
@@ -122,11 +122,6 @@ pub record Writes (old new : NodeState) : Type 0 where
   pub writes : WritesBy handover.order old.machine handover old.kernel new.kernel
   pub is : new ≡ record old { kernel = new.kernel }
 
--- so many of them, one after another
-abbrev pub WritesMany : ℕ → NodeState → NodeState → Type 0
-WritesMany zero old new = new ≡ old
-WritesMany (suc n) old new = (mid : NodeState) × Writes old mid × WritesMany n mid new
-
 -- one of them that fails, by which the hand-over ends
 pub record Misses (old : NodeState) (fault : KernelFault) (new : NodeState) : Type 0 where
   pub handover : Ongoing
@@ -134,17 +129,17 @@ pub record Misses (old : NodeState) (fault : KernelFault) (new : NodeState) : Ty
   pub misses : MissesBy handover.order old.machine handover old.kernel fault new.kernel
   pub is : new ≡ record old { kernel = new.kernel; phase = Unsettled; ongoing = None }
 
--- what ends a hand-over whose writes are made at once: a step that finds no more to come, or a write that fails
-abbrev pub Ends : NodeState → Result (Unit {0}) KernelFault → NodeState → Type 0
-Ends old (Ok done) new = StepsOn old (Ok Done) new
-Ends old (Err fault) new = Misses old fault new
+-- how a hand-over stands after its writes
+abbrev pub phase_after : Result (Unit {0}) KernelFault → Phase
+phase_after (Ok _) = Settled
+phase_after (Err fault) = Unsettled
 
--- the writes of the open hand-over, and what ends it
+-- all writes of the open hand-over at once, in its order, up to its end or to one that fails
 pub record Finishes (old : NodeState) (r : Result (Unit {0}) KernelFault) (new : NodeState) : Type 0 where
-  pub count : ℕ
-  pub mid : NodeState
-  pub writes : WritesMany count old mid
-  pub ends : Ends mid r new
+  pub handover : Ongoing
+  pub was : old.ongoing ≡ Some handover
+  pub makes : FinishesBy handover.order old.machine handover old.kernel r new.kernel
+  pub is : new ≡ record old { kernel = new.kernel; phase = phase_after r; ongoing = None }
 
 -- `begin` in this order, and the writes of its hand-over until it ends
 pub record Moves (order : Order) (old : NodeState) (total : ℕ) (r : Result (Unit {0}) KernelFault) (new : NodeState) : Type 0 where

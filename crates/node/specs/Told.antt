@@ -16,7 +16,10 @@ use Rattle.apply_plan.specs.declared.Progress.{Progress}
 use Rattle.apply_plan.specs.declared.Progress.TheVariants.{More, Done}
 use Rattle.apply_plan.specs.declared.scan.Write.{Write}
 use Rattle.apply_plan.specs.DueWrite.{due, asks_for}
+use Rattle.apply_plan.specs.Finishes as turn
+use Rattle.apply_plan.specs.Targets.{Targets}
 use Rattle.apply_plan.specs.DirectWrite.{due_directly}
+use Rattle.direct_finish.specs.FinishesTold.{finish_told}
 use Rattle.node.specs.declared.fault.NodeFault.{NodeFault}
 use Rattle.node.specs.declared.fault.NodeFault.TheVariants.{Kernel}
 use Rattle.node.specs.declared.order.Order.{Order}
@@ -25,11 +28,11 @@ use Rattle.node.specs.declared.outcome.Outcome.{Outcome}
 use Rattle.node.specs.declared.outcome.Outcome.TheVariants.{Plan, Short}
 use Rattle.node.specs.NodeState.{ContainerState, Ongoing, NodeState, container_of}
 use Rattle.node.specs.LeastCores.{least_cores}
-use Rattle.node.specs.Orders.{directed_of, WritesBy, MissesBy}
+use Rattle.node.specs.Orders.{directed_of, WritesBy, MissesBy, FinishesBy}
 use Rattle.node.specs.Launch.{AtOnce, WritesSets, StartsIn, Launches}
 use Rattle.node.specs.Updates.{Rewrites, Updates, gives_way, moves_home}
 use Rattle.node.specs.Calls.{Places}
-use Rattle.node.specs.Rebalance.{Writes, WritesMany, Misses, Ends, Moves, Rebalances}
+use Rattle.node.specs.Rebalance.{Writes, Misses, Moves, Rebalances}
 use Rattle.node.specs.Machine.{Event, Create, Adopt, Update, Start, Kill, Delete, Rebalance, Begin, StepOn, WriteOn, MissOn, Ask, Fork, Exit, Offline, Online, Step, Run}
 
 -- a group is made where it is not there
@@ -140,11 +143,6 @@ write_told_by Directly m o old new s = asks_for (Some s.0) (Ok tt)
 abbrev pub write_told : (old new : NodeState) → Writes old new → List WritingCall
 write_told old new s = write_told_by s.handover.order old.machine s.handover old.kernel new.kernel s.writes
 
--- so many of them
-abbrev pub writes_told : (count : ℕ) (old new : NodeState) → WritesMany count old new → List WritingCall
-writes_told zero old new same = []
-writes_told (suc count) old new more = writes_told count more.0 new more.2 ++ write_told old more.0 more.1
-
 -- one that fails
 abbrev pub miss_told_by : (order : Order) (m : Layout) (o : Ongoing) (old : KernelState) (fault : KernelFault) (new : KernelState)
     → MissesBy order m o old fault new → List WritingCall
@@ -154,16 +152,22 @@ miss_told_by Directly m o old fault new s = asks_for (Some s.1.0) (Err fault)
 abbrev pub miss_told : (old : NodeState) (fault : KernelFault) (new : NodeState) → Misses old fault new → List WritingCall
 miss_told old fault new s = miss_told_by s.handover.order old.machine s.handover old.kernel fault new.kernel s.misses
 
--- what ends a hand-over
-abbrev pub end_told : (old : NodeState) (r : Result (Unit {0}) KernelFault) (new : NodeState) → Ends old r new → List WritingCall
-end_told old (Ok done) new s = step_told old (Ok Done)
-end_told old (Err fault) new s = miss_told old fault new s
+-- steps in turn after which more are to come
+abbrev pub turns_told : (h : Targets) (count : ℕ) (old new : KernelState) → turn.StepsMore h count old new → List WritingCall
+turns_told h zero old new same = []
+turns_told h (suc count) old new (mid, step, more) = turns_told h count mid new more ++ asks_for (due h old) (Ok tt)
+
+-- all writes of a hand-over that are made at once
+abbrev pub finish_told_by : (order : Order) (m : Layout) (o : Ongoing) (old : KernelState) (r : Result (Unit {0}) KernelFault) (new : KernelState)
+    → FinishesBy order m o old r new → List WritingCall
+finish_told_by InTurn m o old r new f = asks_for (due o.targets f.mid) r ++ turns_told o.targets f.steps old f.mid f.more
+finish_told_by Directly m o old r new f = finish_told (directed_of o) (least_cores m) old r new f
 
 -- the writes of a hand-over from its beginning to its end
 abbrev pub moves_told : (order : Order) (old : NodeState) (total : ℕ) (r : Result (Unit {0}) KernelFault) (new : NodeState)
     → Moves order old total r new → List WritingCall
 moves_told order old total r new m =
-    end_told m.finishes.mid r new m.finishes.ends ++ writes_told m.finishes.count m.mid m.finishes.mid m.finishes.writes
+    let f = m.finishes in finish_told_by f.handover.order m.mid.machine f.handover m.mid.kernel r new.kernel f.makes
 
 -- `rebalance`, in this order
 abbrev pub rebalance_told : (order : Order) (old : NodeState) (r : Result Outcome (OrMemory NodeFault)) (new : NodeState) → Rebalances order old r new → List WritingCall

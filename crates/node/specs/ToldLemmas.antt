@@ -19,7 +19,10 @@ use Rattle.apply_plan.specs.declared.Progress.{Progress}
 use Rattle.apply_plan.specs.declared.Progress.TheVariants.{More, Done}
 use Rattle.apply_plan.specs.declared.scan.Write.{Write}
 use Rattle.apply_plan.specs.DueWrite.{due, asks_for, written}
+use Rattle.apply_plan.specs.Finishes as turn
+use Rattle.apply_plan.specs.Targets.{Targets}
 use Rattle.apply_plan.specs.DirectWrite.{due_directly}
+use Rattle.direct_finish.specs.FinishesToldLemmas.{finishes_are_told}
 use Rattle.node.specs.declared.fault.NodeFault.{NodeFault}
 use Rattle.node.specs.declared.fault.NodeFault.TheVariants.{Busy, NoHandover, Kernel}
 use Rattle.node.specs.declared.order.Order.{Order}
@@ -29,13 +32,13 @@ use Rattle.node.specs.declared.outcome.Outcome.TheVariants.{Plan, Short}
 use Rattle.node.specs.declared.phase.Phase.{Phase}
 use Rattle.node.specs.NodeState.{ContainerState, Ongoing, NodeState}
 use Rattle.node.specs.LeastCores.{least_cores}
-use Rattle.node.specs.Orders.{directed_of, StepsBy, WritesBy, MissesBy}
+use Rattle.node.specs.Orders.{directed_of, StepsBy, WritesBy, MissesBy, FinishesBy}
 use Rattle.node.specs.Launch.{FindsOr, AtOnce, WritesSets, StartsIn, Launches}
 use Rattle.node.specs.Updates.{MadeIf, Rewrites, Updates, gives_way, moves_home}
 use Rattle.node.specs.Calls.{Places, Starts, Kills, Deletes}
-use Rattle.node.specs.Rebalance.{Begins, Stepped, StepsOn, Writes, WritesMany, Misses, Ends, Moves, Rebalances}
+use Rattle.node.specs.Rebalance.{Begins, Stepped, StepsOn, Writes, Misses, Moves, Rebalances}
 use Rattle.node.specs.Machine.{Create, Adopt, Update, Start, Kill, Delete, Rebalance, Begin, StepOn, WriteOn, MissOn, Ask, Fork, Exit, Offline, Online}
-use Rattle.node.specs.Told.{found_told, sets_told, sets_told_at_once, start_told, launch_told, place_told, if_made, rewrites_told, update_told, group_told, kill_told, delete_told, due_by, stepped_told, step_told, write_told_by, write_told, writes_told, miss_told_by, miss_told, end_told, moves_told, rebalance_told, event_told, run_told, EventsAreTold, RunsAreTold}
+use Rattle.node.specs.Told.{found_told, sets_told, sets_told_at_once, start_told, launch_told, place_told, if_made, rewrites_told, update_told, group_told, kill_told, delete_told, due_by, stepped_told, step_told, write_told_by, write_told, miss_told_by, miss_told, turns_told, finish_told_by, moves_told, rebalance_told, event_told, run_told, EventsAreTold, RunsAreTold}
 
 abbrev Trace : Type 0
 Trace = List WritingCall
@@ -191,12 +194,6 @@ write_by_is_told Directly m o old new (w, follows, is) = ap trace_of is
 write_is_told : (old new : NodeState) (s : Writes old new) → new.kernel.trace ≡ write_told old new s ++ old.kernel.trace
 write_is_told old new s = write_by_is_told s.handover.order old.machine s.handover old.kernel new.kernel s.writes
 
-writes_is_told : (count : ℕ) (old new : NodeState) (more : WritesMany count old new) → new.kernel.trace ≡ writes_told count old new more ++ old.kernel.trace
-writes_is_told zero old new same = ap trace_in same
-writes_is_told (suc count) old new more =
-    told_then (writes_told count more.0 new more.2) (write_told old more.0 more.1) new.kernel.trace more.0.kernel.trace old.kernel.trace
-    (writes_is_told count more.0 new more.2) (write_is_told old more.0 more.1)
-
 miss_by_is_told : (order : Order) (m : Layout) (o : Ongoing) (old : KernelState) (fault : KernelFault) (new : KernelState) (s : MissesBy order m o old fault new)
     → new.trace ≡ miss_told_by order m o old fault new s ++ old.trace
 miss_by_is_told InTurn m o old fault new s =
@@ -207,17 +204,28 @@ miss_by_is_told Directly m o old fault new s =
 miss_is_told : (old : NodeState) (fault : KernelFault) (new : NodeState) (s : Misses old fault new) → new.kernel.trace ≡ miss_told old fault new s ++ old.kernel.trace
 miss_is_told old fault new s = miss_by_is_told s.handover.order old.machine s.handover old.kernel fault new.kernel s.misses
 
-end_is_told : (old : NodeState) (r : Result (Unit {0}) KernelFault) (new : NodeState) (s : Ends old r new)
-    → new.kernel.trace ≡ end_told old r new s ++ old.kernel.trace
-end_is_told old (Ok done) new s = step_is_told old (Ok Done) new s
-end_is_told old (Err fault) new s = miss_is_told old fault new s
+turns_is_told : (h : Targets) (count : ℕ) (old new : KernelState) (more : turn.StepsMore h count old new) → new.trace ≡ turns_told h count old new more ++ old.trace
+turns_is_told h zero old new same = ap trace_of same
+turns_is_told h (suc count) old new (mid, step, more) =
+    told_then (turns_told h count mid new more) (asks_for (due h old) (Ok tt)) new.trace mid.trace old.trace
+    (turns_is_told h count mid new more) (ap trace_of step.0 ∙ written_is_told (due h old) old)
+
+finish_is_told : (order : Order) (m : Layout) (o : Ongoing) (old : KernelState) (r : Result (Unit {0}) KernelFault) (new : KernelState)
+    (f : FinishesBy order m o old r new) → new.trace ≡ finish_told_by order m o old r new f ++ old.trace
+finish_is_told InTurn m o old (Ok v) new f =
+    told_then (asks_for (due o.targets f.mid) (Ok v)) (turns_told o.targets f.steps old f.mid f.more) new.trace f.mid.trace old.trace
+    (ap trace_of f.ends.0 ∙ written_is_told (due o.targets f.mid) f.mid) (turns_is_told o.targets f.steps old f.mid f.more)
+finish_is_told InTurn m o old (Err fault) new f =
+    told_then (asks_for (due o.targets f.mid) (Err fault)) (turns_told o.targets f.steps old f.mid f.more) new.trace f.mid.trace old.trace
+    (ap trace_of f.ends.1 ∙ ap (λ (x : KernelFault). asks_for (due o.targets f.mid) (Err x) ++ f.mid.trace) (sym f.ends.0))
+    (turns_is_told o.targets f.steps old f.mid f.more)
+finish_is_told Directly m o old r new f = finishes_are_told (directed_of o) (least_cores m) old r new f
 
 moves_is_told : (order : Order) (old : NodeState) (total : ℕ) (r : Result (Unit {0}) KernelFault) (new : NodeState) (m : Moves order old total r new)
     → new.kernel.trace ≡ moves_told order old total r new m ++ old.kernel.trace
 moves_is_told order old total r new m =
     let f = m.finishes in
-    told_then (end_told f.mid r new f.ends) (writes_told f.count m.mid f.mid f.writes) new.kernel.trace f.mid.kernel.trace m.mid.kernel.trace
-    (end_is_told f.mid r new f.ends) (writes_is_told f.count m.mid f.mid f.writes)
+    finish_is_told f.handover.order m.mid.machine f.handover m.mid.kernel r new.kernel f.makes
     ∙ ap (λ (n : NodeState). moves_told order old total r new m ++ n.kernel.trace) m.begun.is
 
 rebalance_is_told : (order : Order) (old : NodeState) (r : Result Outcome (OrMemory NodeFault)) (new : NodeState) (m : Rebalances order old r new)

@@ -8,7 +8,7 @@ ghost use Rattle.node.specs.Disturbs.{RebalancesWriteLittle};
 ghost use Rattle.node.specs.Ending.{HandoversEnd};
 ghost use Rattle.node.specs.FaultTitle.{node_title};
 ghost use Rattle.node.specs.Machine.{Ask, Step, FirstIsNode, RunsKeep, RunsStaySafe, RunsStayApart};
-ghost use Rattle.node.specs.Machine.{RebalancesAreWrites, RebalancesAreSteps, WritesSqueezeOnlyStuck, RunsRebalance};
+ghost use Rattle.node.specs.Machine.{RebalancesAreWrites, RebalancesAreSteps, DirectWritesKeep, RunsRebalance};
 ghost use Rattle.node.specs.Making.{PlacesAreCalls, PlacesFailLate, PlacesStaySafe, UpdatesAreCalls, UpdatesFail};
 ghost use Rattle.node.specs.Making.{UpdatesStaySafe};
 ghost use Rattle.node.specs.NodeState.{NodeState};
@@ -39,9 +39,10 @@ pub fn first_kernels()
 /// values. All their refusals are among them, and the calls that only read. What is safe is safe after each of them.
 ///
 /// A rebalance which hands over leaves what `begin` and single writes leave (`single`). What is safe is safe after each
-/// of these, and so wherever a write fails. In turn they are those of steps (`steps`). In the direct order each squeezes
-/// onto the reserved CPUs only who is stuck in a ring (`stuck`). After each write of `create` and of `adopt` what is
-/// safe is safe by [`each_create`], and of `update` by [`each_update`]. Each other call makes at most one.
+/// of these, and so wherever a write fails. In turn they are those of steps (`steps`). In the direct order each
+/// squeezes onto the reserved CPUs only who is stuck in a ring, and each container keeps what it has of its target
+/// (`direct`). After each write of `create` and of `adopt` what is safe is safe by [`each_create`], and of `update` by
+/// [`each_update`]. Each other call makes at most one.
 ///
 /// A container asks for what the config says that was read for it last. The event that made it read that, a `create` or
 /// an `adopt`; or an `update` did behind that one. No event after it that was not refused read another for its id.
@@ -55,7 +56,7 @@ pub fn runs()
     ensures apart { RunsStayApart }
     ensures single { RebalancesAreWrites }
     ensures steps { RebalancesAreSteps }
-    ensures stuck { WritesSqueezeOnlyStuck }
+    ensures direct { DirectWritesKeep }
     ensures said { ContainersAreSaid }
 {}
 
@@ -108,9 +109,9 @@ pub fn standing_plans()
     ensures second { SecondsKeepPlans }
 {}
 
-/// How often a rebalance in turn to a plan writes one live container. One that requests what the plan gives it is not
-/// written at all. One that lets nothing go but reserved CPUs, as it only gets more, is written once at most. So is one
-/// that only lets go, none of them reserved. No other is written more than twice, and nobody else's group is.
+/// How often a rebalance to a plan writes one live container, in either order. One that requests what the plan gives it
+/// is not written at all. One that lets nothing go but reserved CPUs, as it only gets more, is written once at most. So
+/// is one that only lets go, none of them reserved. No other is written more than twice, and nobody else's group is.
 pub fn each_write()
     ensures { RebalancesWriteLittle }
 {}
@@ -123,9 +124,9 @@ pub fn each_call()
     ensures runs { RunsAreTold }
 {}
 
-/// Retries end. If no hand-over is open and n writes fail in all, then of n + 1 rebalances in a row one answers: a plan,
-/// a shortage, or that an allocation failed. However many there are, at most 2 (n + 1) writes for each live container
-/// succeed.
+/// Retries end. If no hand-over is open and n writes fail in all, then of n + 1 rebalances in a row one answers: a
+/// plan, a shortage, or that an allocation failed. However many there are, at most 2 (n + 1) writes for each live
+/// container succeed.
 pub fn retries()
     ensures { RetriesEnd }
 {}

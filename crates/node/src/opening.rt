@@ -196,8 +196,9 @@ impl<K: Kernel + Drop> Node<K> {
             Order::InTurn => Ok(Course::InTurn(Handover::new(entries, reserved))),
             Order::Directly => {
                 let allowed = allowed_in(self.alloc, &self.kernel, &self.containers)?;
-                let agenda = Agenda::new(self.alloc, entries.len())?;
+                let count = entries.len();
                 let handover = DirectHandover::new(self.alloc, entries, allowed, reserved)?;
+                let agenda = Agenda::new(self.alloc, count)?;
                 Ok(Course::Directly(handover, agenda))
             }
         }

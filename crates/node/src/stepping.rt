@@ -2,6 +2,7 @@
 ghost use Rattle.std.specs.Prelude.{◌≡◌, ◌+◌, ◌*◌, ◌++◌, ◌≤◌, length, Some, OnErr};
 ghost use Rattle.kernel_model.specs.KernelState.{writes};
 ghost use Rattle.apply_plan.specs.DueWrite.{HaveTargets};
+ghost use Rattle.apply_plan.specs.OnWay.{AreOnWay};
 ghost use Rattle.apply_plan.specs.Squeezes.{SqueezesOnlyStuck};
 ghost use Rattle.node.specs.LeastCores.{least_cores};
 ghost use Rattle.node.specs.NodeState.{Ongoing};
@@ -69,6 +70,10 @@ impl<K: Kernel + Drop> Node<K> {
         // can give way otherwise.
         ensures squeezes { (o : Ongoing) → self.old.ongoing ≡ Some o → o.order ≡ Directly
             → SqueezesOnlyStuck (directed_of o) (least_cores self.old.machine) self.old.kernel self.new.kernel }
+        // In the direct order it requests then none but CPUs that it did before it, of its target, reserved ones and
+        // those that it is allowed. It keeps all of its target that it requested before it.
+        ensures way { (o : Ongoing) → self.old.ongoing ≡ Some o → o.order ≡ Directly
+            → AreOnWay (directed_of o) self.old.kernel self.new.kernel }
         // After a write that failed, each container requests what it did before, what it keeps of that, or what the
         // plan gave it; in the direct order what it may on its way. Nothing else changed in the kernel but its counts,
         // and the hand-over is over.

@@ -257,7 +257,7 @@ module _ (m : Layout) (layout : IsMachine m) (keep : RunsKeep) where
 
   moves_known : RebalancesAreWrites → (order : Order) (old new : NodeState) (total : ℕ) (r : Result (Unit {0}) KernelFault) → Known m old → Moves order old total r new → Known m new
   moves_known single order old new total r h moves =
-      let by = single order old total r new moves in
+      let by = single order old total r new h.node moves in
       writes_known by.0 by.2.0 new by.1
       (begin_known order old by.2.0 (Ok (Plan total)) h (kept old by.2.0 (Begin order (Ok (Plan total))) h by.2.1) by.2.1) by.2.2
 

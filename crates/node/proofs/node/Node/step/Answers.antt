@@ -18,6 +18,7 @@ returns g c =
       made = λ o was. (says law old c.holds.ensures o was r new done).made;
       done = λ e o was. (says law old c.holds.ensures o was r new done).done e;
       squeezes = λ o was. (says law old c.holds.ensures o was r new done).squeezes;
+      way = λ o was. (says law old c.holds.ensures o was r new done).way;
       broken = broken_off law old c.holds.ensures r new done;
       counted = counts law old c.holds.ensures r new done;
     }
