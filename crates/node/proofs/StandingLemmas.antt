@@ -29,7 +29,7 @@ use Rattle.node.specs.declared.fault.NodeFault.TheVariants.{Busy, Kernel}
 use Rattle.node.specs.declared.order.Order.{Order}
 use Rattle.node.specs.declared.outcome.Outcome.{Outcome}
 use Rattle.node.specs.declared.outcome.Outcome.TheVariants.{Plan, Short}
-use Rattle.node.specs.declared.phase.Phase.TheVariants.{Settled, Underway, Unsettled}
+use Rattle.node.specs.declared.phase.Phase.TheVariants.{Settled, Underway}
 use Rattle.node.specs.NodeState.{ContainerState, Ongoing, NodeState, is_underway}
 use Rattle.node.specs.Owners.{is_pinned}
 use Rattle.node.specs.Status.{is_live}

@@ -13,7 +13,6 @@ use Rattle.kernel_model.specs.KernelState.{KernelState}
 use Rattle.machine.specs.Layout.{Layout}
 use Rattle.demand.specs.declared.Demand.{Demand as Asked}
 use Rattle.apply_plan.specs.declared.Progress.{Progress}
-use Rattle.apply_plan.specs.declared.Progress.TheVariants.{More, Done}
 use Rattle.apply_plan.specs.declared.scan.Write.{Write}
 use Rattle.apply_plan.specs.DueWrite.{due, asks_for}
 use Rattle.apply_plan.specs.Finishes as turn
@@ -140,6 +139,7 @@ abbrev pub write_told_by : (order : Order) (m : Layout) (o : Ongoing) (old new :
 write_told_by InTurn m o old new s = asks_for (due o.targets old) (Ok tt)
 write_told_by Directly m o old new s = asks_for (Some s.0) (Ok tt)
 
+-- the same of a node
 abbrev pub write_told : (old new : NodeState) → Writes old new → List WritingCall
 write_told old new s = write_told_by s.handover.order old.machine s.handover old.kernel new.kernel s.writes
 
@@ -149,6 +149,7 @@ abbrev pub miss_told_by : (order : Order) (m : Layout) (o : Ongoing) (old : Kern
 miss_told_by InTurn m o old fault new s = asks_for (due o.targets old) (Err fault)
 miss_told_by Directly m o old fault new s = asks_for (Some s.1.0) (Err fault)
 
+-- the same of a node
 abbrev pub miss_told : (old : NodeState) (fault : KernelFault) (new : NodeState) → Misses old fault new → List WritingCall
 miss_told old fault new s = miss_told_by s.handover.order old.machine s.handover old.kernel fault new.kernel s.misses
 

@@ -243,10 +243,10 @@ impl<K: Kernel + Drop> Node<K> {
     /// plan gave it, reserved or allowed to it, and all that the plan gave it and it requested before.
     pub fn rebalance_directly(&mut self) -> Result<Outcome, OrMemory<NodeFault>>
         // The host has then what `rebalance` leaves it, and the certificate tells the same. If a write failed, each
-        // container requests what it may on its way. It is `begin_directly`, and single writes until the hand-over ends.
-        // By each a container takes its CPUs, of which no rival has any, or it is the one that a single step makes. It
-        // makes at most two writing calls for each live container, at most one more if a write fails, and none if there
-        // is no plan.
+        // container requests what it may on its way. It is `begin_directly`, and single writes until the hand-over
+        // ends. By each a container takes its CPUs, of which no rival has any, or it is the one that a single step
+        // makes. It makes at most two writing calls for each live container, at most one more if a write fails, and
+        // none if there is no plan.
         ensures { RebalancesBy Directly self.old result self.new }
     {
         self.holds();
