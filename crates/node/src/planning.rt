@@ -227,7 +227,8 @@ impl<K: Kernel + Drop> Node<K> {
     pub fn rebalance(&mut self) -> Result<Outcome, OrMemory<NodeFault>>
         // What the host has then (`specs/Headline.antt`).
         ensures headline { Headline self.old result self.new }
-        // What the certificate tells of that (`specs/Tells.antt`).
+        // What the certificate tells of that (`specs/Tells.antt`). **A shortage names only those to blame**: the rows
+        // of all members but any one have a plan.
         ensures told { Tells self.old result self.new }
         // If a write failed, each container requests what it did before, what it keeps of that, or what the plan gave
         // it. Nothing else changed in the kernel but its counts, and the hand-over is over. The plan that it began was
