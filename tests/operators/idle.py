@@ -99,8 +99,8 @@ def spent(site: Site, rounds: int) -> float:
 @case
 def seconds() -> None:
     site = crowded()
-    few = min(spent(site, 2) for _ in range(2))
-    many = min(spent(site, 2 + LOOKS) for _ in range(2))
+    few = min(spent(site, 2) for _ in range(3))
+    many = min(spent(site, 2 + LOOKS) for _ in range(3))
     each = (many - few) / LOOKS
     print(f"an idle look of {COUNT} containers: {1000 * each:.1f} ms of processor")
     check("seconds of an idle look", each <= FACTOR * SECONDS, True)
