@@ -8,22 +8,18 @@ use Rattle.cpuset_tree.specs.Places.{place_of}
 use Rattle.cpuset_tree.specs.Effective.{effective_cpus, granted}
 use Rattle.kernel_model.specs.declared.KernelFault.{KernelFault}
 use Rattle.kernel_model.specs.declared.KernelFault.TheVariants.{Failed}
+use Rattle.kernel_model.specs.Trace.{WritingCall, MadeGroup, RemovedGroup, WroteCpus, WroteMems, EndedGroup}
 use Rattle.kernel_model.specs.KernelState.{KernelState}
 use Rattle.kernel_model.specs.WellFormed.{IsWellFormed}
-use Rattle.kernel_model.specs.Cases.{MakesGroup, RemovesGroup, WritesCpus, WritesMems, Spawns, EndsGroup, Forks, Exits, GoesOffline, ComesOnline}
+use Rattle.kernel_model.specs.Cases.{IsMade, Forks, Exits, GoesOffline, ComesOnline}
 use Rattle.cgroup_tree.specs.Asked.{Deed, Made, Removed, Unmade, Written, Compared, Asked, Opening, done, refused}
 use Rattle.cgroup_tree.specs.Paths.{folder, below, list_line, cpus_file, cpus_in_effect, mems_file, kill_file, controls_file, kill_line, controls_line}
 use Rattle.cgroup_tree.specs.Mirrored.{IsNamed, looks_behind}
 use Rattle.cgroup_tree.specs.Site.{Begins, Site, opening}
 
--- a call, with what it answered
+-- a writing call with what it answered, or an event of the kernel with its answer
 pub data Event : Type 0 where
-  MadeGroup : Group → List ℕ → Result Group (OrMemory KernelFault) → Event
-  RemovedGroup : Group → Result (Unit {0}) KernelFault → Event
-  WroteCpus : Group → Ids → Result (Unit {0}) KernelFault → Event
-  WroteMems : Group → Ids → Result (Unit {0}) KernelFault → Event
-  Spawned : Group → Result ℕ (OrMemory KernelFault) → Event
-  EndedGroup : Group → Result (Unit {0}) KernelFault → Event
+  Wrote : WritingCall → Event
   Forked : ℕ → Result ℕ (OrMemory KernelFault) → Event
   Exited : ℕ → Result (Unit {0}) KernelFault → Event
   WentOffline : ℕ → Result (Unit {0}) KernelFault → Event
@@ -31,16 +27,20 @@ pub data Event : Type 0 where
 
 -- a call is its case of the model
 abbrev pub Happens : KernelState → Event → KernelState → Type 0
-Happens old (MadeGroup parent name r) new = MakesGroup old parent name r new
-Happens old (RemovedGroup g r) new = RemovesGroup old g r new
-Happens old (WroteCpus g cpus r) new = WritesCpus old g cpus r new
-Happens old (WroteMems g mems r) new = WritesMems old g mems r new
-Happens old (Spawned g r) new = Spawns old g r new
-Happens old (EndedGroup g r) new = EndsGroup old g r new
+Happens old (Wrote call) new = IsMade old call new
 Happens old (Forked parent r) new = Forks old parent r new
 Happens old (Exited pid r) new = Exits old pid r new
 Happens old (WentOffline cpu r) new = GoesOffline old cpu r new
 Happens old (CameOnline cpu r) new = ComesOnline old cpu r new
+
+-- the writing calls among them
+abbrev pub writes_among : List Event → List WritingCall
+writes_among [] = []
+writes_among (Wrote call ∷ past) = call ∷ writes_among past
+writes_among (Forked parent r ∷ past) = writes_among past
+writes_among (Exited pid r ∷ past) = writes_among past
+writes_among (WentOffline cpu r ∷ past) = writes_among past
+writes_among (CameOnline cpu r ∷ past) = writes_among past
 
 -- what a write asked of the files, the newest first: where it is Ok this, which was done; where it failed this, which was refused;
 -- and nothing where something stood against it
@@ -77,15 +77,15 @@ module _ (root : List ℕ) (memory : Ids) (partition : Bool) where
   -- what a call asks of the files, by its answer; behind a write of CPUs they are compared with what the group has in effect then,
   -- and the root's partition file with `root` if the root has to be a partition root
   abbrev pub AsksFor : KernelState → Event → KernelState → List Asked → Type 0
-  AsksFor k (MadeGroup parent name r) new these =
+  AsksFor k (Wrote (MadeGroup parent name r)) new these =
       AreAsked (Written (file_of k parent controls_file) controls_line) (Made (file_of k parent (below name))) (Unmade (file_of k parent (below name))) r these
       × IsNamed name r
-  AsksFor k (RemovedGroup g r) new these = IsAsked (Removed (file_of k g [])) r these
-  AsksFor k (WroteCpus g cpus r) new these =
+  AsksFor k (Wrote (RemovedGroup g r)) new these = IsAsked (Removed (file_of k g [])) r these
+  AsksFor k (Wrote (WroteCpus g cpus r)) new these =
       AreAskedAndLooked (Written (file_of k g cpus_file) (list_line cpus))
       (looks_behind partition root (Compared (file_of new g cpus_in_effect) (list_line (effective_cpus new.tree g)))) r these
-  AsksFor k (WroteMems g mems r) new these = IsAsked (Written (file_of k g mems_file) (list_line (granted mems memory))) r these
-  AsksFor k (EndedGroup g r) new these = IsAskedAt (place_of k.tree g) (Written (file_of k g kill_file) kill_line) r these
+  AsksFor k (Wrote (WroteMems g mems r)) new these = IsAsked (Written (file_of k g mems_file) (list_line (granted mems memory))) r these
+  AsksFor k (Wrote (EndedGroup g r)) new these = IsAskedAt (place_of k.tree g) (Written (file_of k g kill_file) kill_line) r these
   AsksFor k event new these = these ≡ []
 
 module _ (site : Site) where
@@ -101,12 +101,14 @@ module _ (site : Site) where
       (old : KernelState) × (before : List Asked) × (these : List Asked)
       × Past past old before × Happens old event k × AsksFor site.root site.memory site.partition old event k these × (asked ≡ these ++ before)
 
--- all that was asked of the files is what the calls of the kernel stand for, in their order, from its beginning on. The files
--- are opened so, and keep other programs from the root.
+-- all that was asked of the files is what the calls of the kernel stand for, in their order, from its beginning on. The writing
+-- calls among these are just those that the kernel was asked for. The files are opened so, and keep other
+-- programs from the root.
 pub record IsMirrored {F : Type 0} (asked : F → Opening → List Asked → Type 0) (site : Site) (k : KernelState) (files : F) : Type 0 where
   pub past : List Event
   pub calls : List Asked
   pub was : Past site past k calls
+  pub told : writes_among past ≡ k.trace
   pub made : asked files (opening site) calls
 
 -- a mirrored kernel that has this root, these nodes with memory, and a root that has to be a partition root or not

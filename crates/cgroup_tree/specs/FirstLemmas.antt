@@ -1,17 +1,18 @@
 -- A mirrored kernel from the beginning.
-use Rattle.std.proofs.Common.{◌≡◌, ℕ, arith}
+use Rattle.std.proofs.Common.{◌≡◌, ℕ, List, [], ap}
 use Rattle.cpu_set.specs.Ids.{Ids}
+use Rattle.kernel_model.specs.Trace.{WritingCall, failures_in}
 use Rattle.kernel_model.specs.KernelState.{KernelState, IsFirstKernel}
 use Rattle.cgroup_tree.specs.Mirrored.{mirrored}
 
--- of which no write was refused yet, a new kernel is new
-pub first_mirrored : (present reserved online nodes : Ids) (first_pid n : ℕ) (k : KernelState) → n ≡ 0
-    → IsFirstKernel present reserved online nodes first_pid k → IsFirstKernel present reserved online nodes first_pid (mirrored n k)
-first_mirrored present reserved online nodes first_pid n k none first = record {
+-- of which nothing was asked yet, a new kernel is new
+pub first_mirrored : (present reserved online nodes : Ids) (first_pid : ℕ) (trace : List WritingCall) (k : KernelState) → trace ≡ []
+    → IsFirstKernel present reserved online nodes first_pid k → IsFirstKernel present reserved online nodes first_pid (mirrored trace k)
+first_mirrored present reserved online nodes first_pid trace k none first = record {
   first_tree = first.first_tree;
   first_table = first.first_table;
   all_present = first.all_present;
   some_reserved = first.some_reserved;
-  none_failed = omega (arith, first.none_failed, none);
-  none_written = omega (arith, first.none_written, none);
+  none_failed = ap failures_in none;
+  none_written = none;
 }

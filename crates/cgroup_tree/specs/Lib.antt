@@ -13,6 +13,7 @@ pub mod ChangeLemmas
 pub mod KernelView
 pub mod Events
 pub mod Stands
+pub mod PastsTold
 pub mod PastLemmas
 pub mod MirroredLemmas
 pub mod Partitions

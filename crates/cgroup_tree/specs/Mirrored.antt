@@ -1,16 +1,18 @@
 -- A kernel whose writes are asked of files too.
-use Rattle.std.specs.Prelude.{⊤, ℕ, ◌+◌, Bool, true, false, List, [], ◌∷◌, ◌++◌, ◌⊎◌, Option, Some, None, Result, Ok, Err}
+use Rattle.std.specs.Prelude.{⊤, ℕ, Bool, true, false, List, [], ◌∷◌, ◌++◌, ◌⊎◌, Option, Some, None, Result, Ok, Err}
 use Rattle.faults.specs.declared.OrMemory.{OrMemory}
 use Rattle.faults.specs.declared.OrMemory.TheVariants.{Memory, Fault}
 use Rattle.kernel_model.specs.declared.KernelFault.{KernelFault}
 use Rattle.kernel_model.specs.declared.KernelFault.TheVariants.{Failed}
+use Rattle.kernel_model.specs.Trace.{WritingCall, failures_in}
 use Rattle.kernel_model.specs.KernelState.{KernelState}
 use Rattle.cgroup_tree.specs.Asked.{Deed, Compared, Asked, done, refused, Asks}
 use Rattle.cgroup_tree.specs.Paths.{IsName, partition_file, partition_line}
 
--- the model, with as many writes and failures more as were refused by the files and never came to the model
-abbrev pub mirrored : ℕ → KernelState → KernelState
-mirrored n k = record k { failures = k.failures + n; writes = k.writes + n }
+-- the model, with the calls that were made of both, and as many failures as these have: what the files refused never came to the
+-- model
+abbrev pub mirrored : List WritingCall → KernelState → KernelState
+mirrored trace k = record k { failures = failures_in trace; trace = trace }
 
 -- a group that was made, or whose allocation in the model alone failed, has a name that a folder may have
 abbrev pub IsNamed : {A : Type 0} → List ℕ → Result A (OrMemory KernelFault) → Type 0

@@ -7,6 +7,7 @@ use Rattle.faults.specs.declared.or_memory.OrMemory.TheVariants.{Memory, Fault}
 use Rattle.cpu_set.specs.Ids.{Ids}
 use Rattle.kernel_model.specs.declared.KernelFault.{KernelFault}
 use Rattle.kernel_model.specs.declared.KernelFault.TheVariants.{Failed}
+use Rattle.kernel_model.specs.Trace.{WritingCall}
 use Rattle.kernel_model.specs.KernelState.{KernelState}
 use Rattle.kernel_model.specs.WellFormed.{IsWellFormed}
 use Rattle.cgroup_tree.specs.Asked.{Deed, Asked, Asks, Opening, done, refused}
@@ -14,7 +15,7 @@ use Rattle.cgroup_tree.specs.Mirrored.{mirrored, Mirrors, MirrorsAt, MirrorsBoth
 use Rattle.cgroup_tree.specs.Events.{Event, Happens, IsAsked, IsAskedAt, AreAsked, AreAskedAndLooked, AsksFor, Past, IsMirrored, IsMirroredAt}
 use Rattle.cgroup_tree.specs.Site.{Beginning, Begins, Site, opening}
 use Rattle.cgroup_tree.specs.Stands.{FilesStand}
-use Rattle.cgroup_tree.specs.PastLemmas.{past_kept, pasts_stand}
+use Rattle.cgroup_tree.specs.PastLemmas.{past_kept, pasts_stand, pasts_are_told}
 use Rattle.cgroup_tree.specs.FirstLemmas.{first_mirrored}
 
 -- some calls more, which are these
@@ -70,6 +71,7 @@ goes_on asked site root root' memory memory' partition partition' k new files af
         past = event ∷ was.past;
         calls = more.these ++ was.calls;
         was = (k, was.calls, more.these, was.was, happens, are, refl);
+        told = pasts_are_told site (event ∷ was.past) new (more.these ++ was.calls) (k, was.calls, more.these, was.was, happens, are, refl);
         made = more.asks (opening site) was.calls was.made;
       };
       root_is = same.0 ∙ held.root_is;
@@ -81,9 +83,9 @@ goes_on asked site root root' memory memory' partition partition' k new files af
 pub unasked : {F : Type 0} (asked : F → Opening → List Asked → Type 0) (old new : F) → new ≡ old → Grown asked old (λ these. these ≡ []) new
 unasked asked old new same = record { these = []; are = refl; asks = λ how before held. subst (λ f. asked f how before) (sym same) held }
 
--- a kernel of which some writes never came to the model is well formed as the model is
-pub well_mirrored : (n : ℕ) (k : KernelState) → IsWellFormed k → IsWellFormed (mirrored n k)
-well_mirrored n k well = record {
+-- a kernel of which some calls never came to the model is well formed as the model is
+pub well_mirrored : (trace : List WritingCall) (k : KernelState) → IsWellFormed k → IsWellFormed (mirrored trace k)
+well_mirrored trace k well = record {
   tree = well.tree;
   table = well.table;
   placed = well.placed;
@@ -93,11 +95,11 @@ well_mirrored n k well = record {
 }
 
 -- at the beginning
-pub starts : {F : Type 0} (asked : F → Opening → List Asked → Type 0) (site : Site) (root : List ℕ) (memory : Ids) (partition : Bool) (n : ℕ) (k inner : KernelState) (files : F)
-    → k ≡ inner → n ≡ 0 → IsWellFormed inner → Begins site.first inner → root ≡ site.root → memory ≡ site.memory → partition ≡ site.partition
-    → asked files (opening site) [] → IsMirroredAt asked site root memory partition (mirrored n k) files
+pub starts : {F : Type 0} (asked : F → Opening → List Asked → Type 0) (site : Site) (root : List ℕ) (memory : Ids) (partition : Bool) (trace : List WritingCall) (k inner : KernelState) (files : F)
+    → k ≡ inner → trace ≡ [] → IsWellFormed inner → Begins site.first inner → root ≡ site.root → memory ≡ site.memory → partition ≡ site.partition
+    → asked files (opening site) [] → IsMirroredAt asked site root memory partition (mirrored trace k) files
 unfolding Past
-starts asked site root memory partition n k inner files is zero well first root_is memory_is partition_is none =
+starts asked site root memory partition trace k inner files is none_told well first root_is memory_is partition_is none =
     let b : Beginning = site.first in
     record {
       mirrored = record {
@@ -105,11 +107,12 @@ starts asked site root memory partition n k inner files is zero well first root_
         calls = [];
         was = (
           record {
-            well = well_mirrored n k (subst (λ (x : KernelState). IsWellFormed x) (sym is) well);
-            first = first_mirrored b.present b.reserved b.online b.nodes b.first_pid n k zero (subst (λ (x : KernelState). Begins b x) (sym is) first);
+            well = well_mirrored trace k (subst (λ (x : KernelState). IsWellFormed x) (sym is) well);
+            first = first_mirrored b.present b.reserved b.online b.nodes b.first_pid trace k none_told (subst (λ (x : KernelState). Begins b x) (sym is) first);
           },
           refl,
         );
+        told = sym none_told;
         made = none;
       };
       root_is = root_is;

@@ -22,8 +22,9 @@ use Rattle.cpuset_tree.specs.TreeWellFormed as formed
 use Rattle.kernel_model.specs.declared.KernelFault.{KernelFault}
 use Rattle.kernel_model.specs.declared.KernelFault.TheVariants.{Failed}
 use Rattle.kernel_model.specs.Faults.{of_tree}
+use Rattle.kernel_model.specs.Trace.{WritingCall, MadeGroup, RemovedGroup, WroteCpus, WroteMems, Spawned, EndedGroup}
 use Rattle.kernel_model.specs.KernelState.{KernelState}
-use Rattle.kernel_model.specs.KernelLemmas.{each_case_keeps, writes_keep_tree, events_keep_groups}
+use Rattle.kernel_model.specs.KernelLemmas.{each_case_keeps, writes_keep_tree, events_keep_groups, tells_each_write}
 use Rattle.kernel_model.specs.RefusalLemmas.{calls_are_free}
 use Rattle.kernel_model.specs.NameLemmas.{MakesGroup-names, RemovesGroup-names, WritesCpus-names, WritesMems-names, names_of_first, none_of_name}
 use Rattle.kernel_model.specs.Names.{HaveOwnNames}
@@ -37,9 +38,10 @@ use Rattle.cgroup_tree.specs.Standing.{text_in, StandsFor, HavePlainNames, AreAp
 use Rattle.cgroup_tree.specs.StandingLemmas.{folder_same, writes_stand, places_written, places_written_mems}
 use Rattle.cgroup_tree.specs.ChangeLemmas.{folders_stand, passed_on, unmade, gone, looked_behind, entry_left, there_left}
 use Rattle.cgroup_tree.specs.ApartLemmas.{plain_names_apart, one_folder_there, entry_placed, some_of}
-use Rattle.cgroup_tree.specs.Events.{Event, MadeGroup, RemovedGroup, WroteCpus, WroteMems, Spawned, EndedGroup, Forked, Exited, WentOffline, CameOnline, Happens, IsAsked, IsAskedAt, AreAsked, AreAskedAndLooked, AsksFor, IsNew, Past}
+use Rattle.cgroup_tree.specs.Events.{Event, Wrote, Forked, Exited, WentOffline, CameOnline, Happens, IsAsked, IsAskedAt, AreAsked, AreAskedAndLooked, AsksFor, IsNew, Past}
 use Rattle.cgroup_tree.specs.Site.{Site}
 use Rattle.cgroup_tree.specs.Stands.{PastsStand}
+use Rattle.cgroup_tree.specs.PastsTold.{PastsAreTold}
 
 -- a group has a place exactly where nothing stands against a write of it
 placed_at : (name : List ℕ) (parent : Option Group)
@@ -251,18 +253,18 @@ module _ (root : List ℕ) (memory : Ids) (old : KernelState) (before : List Ask
 
   step : (partition : Bool) (event : Event) (new : KernelState) (these : List Asked) → Happens old event new → AsksFor root memory partition old event new these
       → Kept root memory new (these ++ before)
-  step partition (MadeGroup parent name r) new these h are =
+  step partition (Wrote (MadeGroup parent name r)) new these h are =
       kept new these (make_part parent name r new these h are.0 are.1) ((each_case_keeps old new was.well).make parent name r h).well_formed
       (MakesGroup-names old was.own parent name r new h)
-  step partition (RemovedGroup g r) new these h are =
+  step partition (Wrote (RemovedGroup g r)) new these h are =
       kept new these (remove_part g r new these h are) ((each_case_keeps old new was.well).remove g r h).well_formed (RemovesGroup-names old was.own g r new h)
-  step partition (WroteCpus g cpus r) new these h are =
+  step partition (Wrote (WroteCpus g cpus r)) new these h are =
       kept new these (cpus_part partition g cpus r new these h _ _ are) ((each_case_keeps old new was.well).cpus g cpus r h).well_formed (WritesCpus-names old was.own g cpus r new h)
-  step partition (WroteMems g mems r) new these h are =
+  step partition (Wrote (WroteMems g mems r)) new these h are =
       kept new these (mems_part g mems r new these h are) ((each_case_keeps old new was.well).mems g mems r h).well_formed (WritesMems-names old was.own g mems r new h)
-  step partition (EndedGroup g r) new these h are =
+  step partition (Wrote (EndedGroup g r)) new these h are =
       kept new these (end_at (place_of old.tree g) g r new these h are) ((each_case_keeps old new was.well).end g r h).well_formed (own_tree new (writes_keep_tree.end old new g r h))
-  step partition (Spawned g r) new these h are =
+  step partition (Wrote (Spawned g r)) new these h are =
       let same = writes_keep_tree.spawn old new g r h in
       kept new these (part_none new.tree these same are) ((each_case_keeps old new was.well).spawn g r h).well_formed (own_tree new same)
   step partition (Forked parent r) new these h are =
@@ -304,3 +306,18 @@ pub pasts_stand : PastsStand
 pasts_stand site past k calls was =
     let it : Kept site.root site.memory k calls = past_kept site past k calls was in
     (it.stands, plain_names_apart k.tree it.well.tree it.own it.plain)
+
+-- the writing calls among those that led to a kernel are those that it was asked for
+pub pasts_are_told : PastsAreTold
+unfolding Past
+pasts_are_told site [] k calls (new, none) = sym new.first.none_written
+pasts_are_told site (Wrote call ∷ past) k calls (old, before, these, was, happens, asks, are) =
+    ap (λ (earlier : List WritingCall). call ∷ earlier) (pasts_are_told site past old before was) ∙ sym (tells_each_write old call k happens)
+pasts_are_told site (Forked parent r ∷ past) k calls (old, before, these, was, happens, asks, are) =
+    pasts_are_told site past old before was ∙ sym (events_keep_groups.fork old k parent r happens).0.trace
+pasts_are_told site (Exited pid r ∷ past) k calls (old, before, these, was, happens, asks, are) =
+    pasts_are_told site past old before was ∙ sym (events_keep_groups.exit old k pid r happens).0.trace
+pasts_are_told site (WentOffline cpu r ∷ past) k calls (old, before, these, was, happens, asks, are) =
+    pasts_are_told site past old before was ∙ sym (events_keep_groups.offline old k cpu r happens).0.trace
+pasts_are_told site (CameOnline cpu r ∷ past) k calls (old, before, these, was, happens, asks, are) =
+    pasts_are_told site past old before was ∙ sym (events_keep_groups.online old k cpu r happens).0.trace

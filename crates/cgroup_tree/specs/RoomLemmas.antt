@@ -16,12 +16,13 @@ use Rattle.cpuset_tree.specs.GroupLemmas.{same_group-equal}
 use Rattle.cpuset_tree.specs.Places.{place_in, place_of}
 use Rattle.kernel_model.specs.declared.KernelFault.{KernelFault}
 use Rattle.kernel_model.specs.declared.KernelFault.TheVariants.{Failed}
+use Rattle.kernel_model.specs.Trace.{MadeGroup, RemovedGroup, WroteCpus, WroteMems, Spawned, EndedGroup}
 use Rattle.kernel_model.specs.KernelState.{KernelState}
 use Rattle.kernel_model.specs.KernelLemmas.{each_case_keeps, writes_keep_tree, events_keep_groups}
 use Rattle.kernel_model.specs.Cases.{MakesGroup, RemovesGroup, WritesCpus, WritesMems}
 use Rattle.kernel_model.specs.WellFormed.{IsWellFormed}
 use Rattle.cgroup_tree.specs.ChangeLemmas.{folder_stays, folder_added, is_old, there_left, folder_left}
-use Rattle.cgroup_tree.specs.Events.{Event, MadeGroup, RemovedGroup, WroteCpus, WroteMems, Spawned, EndedGroup, Forked, Exited, WentOffline, CameOnline, Happens}
+use Rattle.cgroup_tree.specs.Events.{Event, Wrote, Forked, Exited, WentOffline, CameOnline, Happens}
 use Rattle.cgroup_tree.specs.FolderLemmas.{folder_none}
 use Rattle.cgroup_tree.specs.ApartLemmas.{there_in}
 use Rattle.cgroup_tree.specs.PastLemmas.{no_place, placed_free}
@@ -89,7 +90,7 @@ module _ (n : ℕ) (root : List ℕ) (s : TreeState) (g : Group) (after : formed
 
 -- the room that a call makes: for the folder of a new group
 abbrev pub RoomFor : ℕ → List ℕ → KernelState → Event → Type 0
-RoomFor n root k (MadeGroup parent name (Ok g)) = length root + (length (folder k.tree parent) + (length name + 25)) ≤ n
+RoomFor n root k (Wrote (MadeGroup parent name (Ok g))) = length root + (length (folder k.tree parent) + (length name + 25)) ≤ n
 RoomFor n root k event = ⊤
 
 module _ (n : ℕ) (root : List ℕ) (old : KernelState) (well : IsWellFormed old) (room : HasRoom n root old.tree) where
@@ -110,7 +111,7 @@ module _ (n : ℕ) (root : List ℕ) (old : KernelState) (well : IsWellFormed ol
   of_mems g mems (Err Failed) new h = room_tree n root old.tree new.tree (ap tree_of h) room
   of_mems g mems (Err fault) new h = room_tree n root old.tree new.tree (ap tree_of h.1) room
 
-  of_make : (parent : Group) (name : List ℕ) (r : Result Group (OrMemory KernelFault)) (new : KernelState) → MakesGroup old parent name r new → RoomFor n root old (MadeGroup parent name r)
+  of_make : (parent : Group) (name : List ℕ) (r : Result Group (OrMemory KernelFault)) (new : KernelState) → MakesGroup old parent name r new → RoomFor n root old (Wrote (MadeGroup parent name r))
       → HasRoom n root new.tree
   of_make parent name (Ok g) new h wide =
       room_added n root old.tree new.tree parent g name well.tree ((each_case_keeps old new well).make parent name (Ok g) h).well_formed.tree h.1.does room wide
@@ -119,12 +120,12 @@ module _ (n : ℕ) (root : List ℕ) (old : KernelState) (well : IsWellFormed ol
   of_make parent name (Err (Fault fault)) new h wide = room_tree n root old.tree new.tree (ap tree_of h.1) room
 
   room_step : (event : Event) (new : KernelState) → Happens old event new → RoomFor n root old event → HasRoom n root new.tree
-  room_step (MadeGroup parent name r) new h wide = of_make parent name r new h wide
-  room_step (RemovedGroup g r) new h wide = of_remove g r new h
-  room_step (WroteCpus g cpus r) new h wide = of_cpus g cpus r new h
-  room_step (WroteMems g mems r) new h wide = of_mems g mems r new h
-  room_step (EndedGroup g r) new h wide = room_tree n root old.tree new.tree (writes_keep_tree.end old new g r h) room
-  room_step (Spawned g r) new h wide = room_tree n root old.tree new.tree (writes_keep_tree.spawn old new g r h) room
+  room_step (Wrote (MadeGroup parent name r)) new h wide = of_make parent name r new h wide
+  room_step (Wrote (RemovedGroup g r)) new h wide = of_remove g r new h
+  room_step (Wrote (WroteCpus g cpus r)) new h wide = of_cpus g cpus r new h
+  room_step (Wrote (WroteMems g mems r)) new h wide = of_mems g mems r new h
+  room_step (Wrote (EndedGroup g r)) new h wide = room_tree n root old.tree new.tree (writes_keep_tree.end old new g r h) room
+  room_step (Wrote (Spawned g r)) new h wide = room_tree n root old.tree new.tree (writes_keep_tree.spawn old new g r h) room
   room_step (Forked parent r) new h wide = room_groups n root old.tree new.tree (events_keep_groups.fork old new parent r h).0.groups room
   room_step (Exited pid r) new h wide = room_groups n root old.tree new.tree (events_keep_groups.exit old new pid r h).0.groups room
   room_step (WentOffline cpu r) new h wide = room_groups n root old.tree new.tree (events_keep_groups.offline old new cpu r h).0.groups room
@@ -132,7 +133,7 @@ module _ (n : ℕ) (root : List ℕ) (old : KernelState) (well : IsWellFormed ol
 
 -- the room that was made for a group
 pub room_for : (n : ℕ) (root : List ℕ) (k : KernelState) (parent : Group) (name : List ℕ) (r : Result Group (OrMemory KernelFault))
-    → IfOk r (λ g. length root + (length (folder k.tree parent) + (length name + 25)) ≤ n) → RoomFor n root k (MadeGroup parent name r)
+    → IfOk r (λ g. length root + (length (folder k.tree parent) + (length name + 25)) ≤ n) → RoomFor n root k (Wrote (MadeGroup parent name r))
 room_for n root k parent name (Ok g) wide = wide
 room_for n root k parent name (Err error) wide = tt
 

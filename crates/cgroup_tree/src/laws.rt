@@ -8,6 +8,7 @@ ghost use Rattle.cgroup_tree.specs.Paths.{folder};
 ghost use Rattle.cgroup_tree.specs.Roots.{names_cpuset};
 ghost use Rattle.cgroup_tree.specs.Standing.{FoldersStand, PlainNamesApart, WritesStand, text_in};
 ghost use Rattle.cgroup_tree.specs.Stands.{PastsStand};
+ghost use Rattle.cgroup_tree.specs.PastsTold.{PastsAreTold};
 
 /// If files do what they were asked for and nobody else writes, each group's files have what it requests. A write keeps
 /// it so, whether it is done or refused.
@@ -25,9 +26,11 @@ pub fn changes()
     ensures { FoldersStand }
 {}
 
-/// Files stand for the tree after any list of calls of a mirrored kernel, whatever each of them returned.
+/// Files stand for the tree after any list of calls of a mirrored kernel, whatever each of them returned. The writing
+/// calls of such a list are those that the kernel was asked for.
 pub fn pasts()
-    ensures { PastsStand }
+    ensures stand { PastsStand }
+    ensures told { PastsAreTold }
 {}
 
 /// A partition root and the groups outside it are two trees: the root of the one has the partition's CPUs, and that of

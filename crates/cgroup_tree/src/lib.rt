@@ -7,7 +7,7 @@
 //! # Proved
 //!
 //! - `MirroredKernel` meets the trait `Kernel`. Its meaning is the modelled kernel's; writes that never came to the
-//!   model count as writes and failures. So all that is proved of failing writes holds of it.
+//!   model are told and counted as failures. So all that is proved of failing writes holds of it.
 //! - What each writing call asks of the tree's files is its contract, on top of the trait's (`Mirrors`,
 //!   `MirrorsLooks`, `MirrorsBoth`). If it is Ok, it asked for exactly the write that it stands for, and that was
 //!   done. If it failed, it asked for that write and was refused; a group that is made may fail with nothing asked.
@@ -21,7 +21,8 @@
 //!   its own (`Unmade`), which is to leave a folder that was there before.
 //! - The type has an invariant, which `is_mirrored` names (`IsMirrored`, `Past`). A list of calls, each by its case,
 //!   led from the kernel as it began to this one. All that was asked of the files since they were opened is what these
-//!   calls stand for, in their order. Each node over such a kernel holds it, after each command of a script.
+//!   calls stand for, in their order. The writing calls among them are just those of the kernel's trace, each with its
+//!   answer (`told`). Each node over such a kernel holds it, after each command of a script.
 //! - The `Site` of the type has the root, the nodes with memory, how the files were opened and how the kernel began. No
 //!   call changes it.
 //! - Files stand for the tree after any such calls, whatever each answered (`files_stand`, `pasts`). No two groups have

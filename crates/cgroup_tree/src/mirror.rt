@@ -5,6 +5,7 @@ ghost use Rattle.cpuset_tree.specs.Effective.{effective_cpus, granted};
 ghost use Rattle.cpuset_tree.specs.Groups.{has_group};
 ghost use Rattle.cpuset_tree.specs.Places.{place_of};
 ghost use Rattle.kernel_model.specs.declared.KernelFault.TheVariants.{Failed};
+ghost use Rattle.kernel_model.specs.Told.{told};
 ghost use Rattle.kernel_model.specs.Cases.{MakesGroup, RemovesGroup, WritesCpus, WritesMems, Spawns, EndsGroup, Forks};
 ghost use Rattle.kernel_model.specs.Cases.{Exits, GoesOffline, ComesOnline};
 ghost use Rattle.cgroup_tree.specs.Asked.{Asks, Compared, Made, Removed, Unmade, Written, done};
@@ -22,7 +23,7 @@ use crate::paths::{is_name, widen};
 use crate::room::{LINE_ROOM, Room};
 use cpu_set::IdSet;
 use faults::OrMemory;
-use kernel_model::{Group, Kernel, KernelFault, ModelKernel, WriteCount};
+use kernel_model::{CallMade, Group, Kernel, KernelFault, ModelKernel, Trace};
 
 /// The files of a group (cgroup v2, "Core Interface Files" and "Cpuset Interface Files").
 const CPUS_FILE: &str = "/cpuset.cpus";
@@ -44,8 +45,8 @@ pub struct Mirror<F: GroupFiles> {
     pub inner: ModelKernel,
     /// What the writes are asked of.
     pub files: F,
-    /// How many of them were refused.
-    pub failed: WriteCount,
+    /// The writing calls that were made, those that they refused too.
+    pub trace: Trace,
     /// Where paths and lines are made.
     pub room: Room,
 }
@@ -65,7 +66,7 @@ impl<F: GroupFiles> Mirror<F> {
         ensures memory { result.memory ≡ memory }
         ensures partition { result.partition ≡ partition }
         ensures files { result.files ≡ files }
-        ensures failed { result.failed.writes ≡ 0 }
+        ensures trace { result.trace.calls ≡ [] }
         ensures room { result.room ≡ room }
     {
         Mirror {
@@ -74,15 +75,14 @@ impl<F: GroupFiles> Mirror<F> {
             partition,
             inner,
             files,
-            failed: WriteCount::none(),
+            trace: Trace::none(),
             room,
         }
     }
 
-    /// Counts a write that failed.
-    fn fail(&mut self) -> KernelFault
-        ensures fault { result ≡ Failed }
-        ensures counted { self.new.failed.writes ≡ self.old.failed.writes + 1 }
+    /// Tells a writing call that was made.
+    fn tell(&mut self, call: &CallMade<'_>)
+        ensures told { self.new.trace.calls ≡ told call.now ∷ self.old.trace.calls }
         ensures inner { self.new.inner ≡ self.old.inner }
         ensures root { self.new.root ≡ self.old.root }
         ensures memory { self.new.memory ≡ self.old.memory }
@@ -90,16 +90,47 @@ impl<F: GroupFiles> Mirror<F> {
         ensures files { self.new.files ≡ self.old.files }
         ensures room { self.new.room ≡ self.old.room }
     {
-        self.failed = self.failed.one_more();
+        self.trace = self.trace.then(call);
+    }
+
+    /// Tells one that the files refused.
+    fn fail(&mut self, call: &CallMade<'_>) -> KernelFault
+        ensures fault { result ≡ Failed }
+        ensures told { self.new.trace.calls ≡ told call.now ∷ self.old.trace.calls }
+        ensures inner { self.new.inner ≡ self.old.inner }
+        ensures root { self.new.root ≡ self.old.root }
+        ensures memory { self.new.memory ≡ self.old.memory }
+        ensures partition { self.new.partition ≡ self.old.partition }
+        ensures files { self.new.files ≡ self.old.files }
+        ensures room { self.new.room ≡ self.old.room }
+    {
+        self.tell(call);
         KernelFault::Failed
+    }
+
+    /// Makes a group in the model.
+    fn make_in_model(&mut self, parent: Group, name: &str) -> Result<Group, OrMemory<KernelFault>>
+        ensures case { MakesGroup (mirrored self.old.trace.calls self.old.inner) parent name.now result
+            (mirrored self.new.trace.calls self.new.inner) }
+        ensures model { MakesGroup self.old.inner parent name.now result self.new.inner }
+        ensures never_fails { self.new.inner.failures ≡ 0 }
+        ensures root { self.new.root ≡ self.old.root }
+        ensures memory { self.new.memory ≡ self.old.memory }
+        ensures partition { self.new.partition ≡ self.old.partition }
+        ensures files { self.new.files ≡ self.old.files }
+        ensures room { self.new.room ≡ self.old.room }
+    {
+        let answer = self.inner.make_group(parent, name);
+        self.tell(&CallMade::Group(parent, name, answer));
+        answer
     }
 
     /// Makes a group, once the files have made its folder; that is removed again where its allocation in the model
     /// fails. Room for its paths is taken first: all that is written of it later takes no memory.
     pub fn make_group(&mut self, parent: Group, name: &str) -> Result<Group, OrMemory<KernelFault>>
         requires path { HasRoom (string_capacity self.old.room.path) (string_bytes self.old.root) self.old.inner.tree }
-        ensures case { MakesGroup (mirrored self.old.failed.writes self.old.inner) parent name.now result
-            (mirrored self.new.failed.writes self.new.inner) }
+        ensures case { MakesGroup (mirrored self.old.trace.calls self.old.inner) parent name.now result
+            (mirrored self.new.trace.calls self.new.inner) }
         ensures asks { MirrorsBoth F.asked self.old.files
             (Written (string_bytes self.old.root ++ (folder self.old.inner.tree parent ++ controls_file)) controls_line)
             (Made (string_bytes self.old.root ++ (folder self.old.inner.tree parent ++ below name.now)))
@@ -115,20 +146,21 @@ impl<F: GroupFiles> Mirror<F> {
             × (string_capacity self.old.room.line ≤ string_capacity self.new.room.line) }
     {
         if self.inner.makable(parent, name).is_err() {
-            return self.inner.make_group(parent, name);
+            return self.make_in_model(parent, name);
         }
+        let failed = CallMade::Group(parent, name, Err(OrMemory::Fault(KernelFault::Failed)));
         if !is_name(name.as_bytes()) {
-            return Err(OrMemory::Fault(self.fail()));
+            return Err(OrMemory::Fault(self.fail(&failed)));
         }
         let (root, kernel) = (self.root.as_str(), &self.inner);
         if widen(&mut self.room.path, root, kernel, parent, name).is_err() {
             self.files.tell_lack(name);
-            return Err(OrMemory::Fault(self.fail()));
+            return Err(OrMemory::Fault(self.fail(&failed)));
         }
         if make_folder(&mut self.files, &mut self.room, root, kernel, parent, name).is_err() {
-            return Err(OrMemory::Fault(self.fail()));
+            return Err(OrMemory::Fault(self.fail(&failed)));
         }
-        let answer = self.inner.make_group(parent, name);
+        let answer = self.make_in_model(parent, name);
         if let Err(OrMemory::Memory) = answer {
             let _ = self.files.unmake_folder(self.room.path.as_str());
         }
@@ -138,8 +170,8 @@ impl<F: GroupFiles> Mirror<F> {
     /// Removes a group, once the files have removed its folder.
     pub fn remove_group(&mut self, group: Group) -> Result<(), KernelFault>
         requires path { HasRoom (string_capacity self.old.room.path) (string_bytes self.old.root) self.old.inner.tree }
-        ensures case { RemovesGroup (mirrored self.old.failed.writes self.old.inner) group result
-            (mirrored self.new.failed.writes self.new.inner) }
+        ensures case { RemovesGroup (mirrored self.old.trace.calls self.old.inner) group result
+            (mirrored self.new.trace.calls self.new.inner) }
         ensures asks { Mirrors F.asked self.old.files
             (Removed (string_bytes self.old.root ++ (folder self.old.inner.tree group ++ []))) result self.new.files }
         ensures same { (self.new.root ≡ self.old.root) × (self.new.memory ≡ self.old.memory)
@@ -150,10 +182,12 @@ impl<F: GroupFiles> Mirror<F> {
         if self.inner.removable(group).is_ok() {
             let (root, kernel) = (self.root.as_str(), &self.inner);
             if remove_folder(&mut self.files, &mut self.room, root, kernel, group).is_err() {
-                return Err(self.fail());
+                return Err(self.fail(&CallMade::Removal(group, Err(KernelFault::Failed))));
             }
         }
-        self.inner.remove_group(group)
+        let answer = self.inner.remove_group(group);
+        self.tell(&CallMade::Removal(group, answer));
+        answer
     }
 
     /// Writes what a group requests of CPUs, and looks whether it has them in effect; and whether the root is still a
@@ -161,8 +195,8 @@ impl<F: GroupFiles> Mirror<F> {
     pub fn write_cpus(&mut self, group: Group, cpus: IdSet) -> Result<(), KernelFault>
         requires path { HasRoom (string_capacity self.old.room.path) (string_bytes self.old.root) self.old.inner.tree }
         requires line { LINE_ROOM ≤ string_capacity self.old.room.line }
-        ensures case { WritesCpus (mirrored self.old.failed.writes self.old.inner) group cpus result
-            (mirrored self.new.failed.writes self.new.inner) }
+        ensures case { WritesCpus (mirrored self.old.trace.calls self.old.inner) group cpus result
+            (mirrored self.new.trace.calls self.new.inner) }
         ensures asks { MirrorsLooks F.asked self.old.files
             (Written (string_bytes self.old.root
             ++ (folder self.old.inner.tree group ++ cpus_file)) (list_line cpus))
@@ -185,9 +219,10 @@ impl<F: GroupFiles> Mirror<F> {
             &cpus,
         );
         if asked.is_err() {
-            return Err(self.fail());
+            return Err(self.fail(&CallMade::Cpus(group, &cpus, Err(KernelFault::Failed))));
         }
         let answer = self.inner.write_cpus(group, cpus);
+        self.tell(&CallMade::Cpus(group, &cpus, answer));
         if answer.is_ok() {
             self.look(group);
         }
@@ -206,7 +241,7 @@ impl<F: GroupFiles> Mirror<F> {
             (list_line (effective_cpus self.old.inner.tree group)))) self.new.files }
         ensures same { (self.new.root ≡ self.old.root) × (self.new.memory ≡ self.old.memory)
             × (self.new.partition ≡ self.old.partition) }
-        ensures model { (self.new.inner ≡ self.old.inner) × (self.new.failed ≡ self.old.failed) }
+        ensures model { (self.new.inner ≡ self.old.inner) × (self.new.trace ≡ self.old.trace) }
         ensures wider { (string_capacity self.old.room.path ≤ string_capacity self.new.room.path)
             × (string_capacity self.old.room.line ≤ string_capacity self.new.room.line) }
     {
@@ -226,7 +261,7 @@ impl<F: GroupFiles> Mirror<F> {
             (list_line (effective_cpus self.old.inner.tree group))) ∷ []) self.new.files }
         ensures same { (self.new.root ≡ self.old.root) × (self.new.memory ≡ self.old.memory)
             × (self.new.partition ≡ self.old.partition) }
-        ensures model { (self.new.inner ≡ self.old.inner) × (self.new.failed ≡ self.old.failed) }
+        ensures model { (self.new.inner ≡ self.old.inner) × (self.new.trace ≡ self.old.trace) }
         ensures wider { (string_capacity self.old.room.path ≤ string_capacity self.new.room.path)
             × (string_capacity self.old.room.line ≤ string_capacity self.new.room.line) }
     {
@@ -248,8 +283,8 @@ impl<F: GroupFiles> Mirror<F> {
     pub fn write_mems(&mut self, group: Group, mems: IdSet) -> Result<(), KernelFault>
         requires path { HasRoom (string_capacity self.old.room.path) (string_bytes self.old.root) self.old.inner.tree }
         requires line { LINE_ROOM ≤ string_capacity self.old.room.line }
-        ensures case { WritesMems (mirrored self.old.failed.writes self.old.inner) group mems result
-            (mirrored self.new.failed.writes self.new.inner) }
+        ensures case { WritesMems (mirrored self.old.trace.calls self.old.inner) group mems result
+            (mirrored self.new.trace.calls self.new.inner) }
         ensures asks { Mirrors F.asked self.old.files
             (Written (string_bytes self.old.root
             ++ (folder self.old.inner.tree group ++ mems_file)) (list_line (granted mems self.old.memory))) result
@@ -271,28 +306,32 @@ impl<F: GroupFiles> Mirror<F> {
             &nodes,
         );
         if asked.is_err() {
-            return Err(self.fail());
+            return Err(self.fail(&CallMade::Mems(group, &mems, Err(KernelFault::Failed))));
         }
-        self.inner.write_mems(group, mems)
+        let answer = self.inner.write_mems(group, mems);
+        self.tell(&CallMade::Mems(group, &mems, answer));
+        answer
     }
 
     /// A first process, of which nothing is asked.
     pub fn spawn(&mut self, group: Group) -> Result<u32, OrMemory<KernelFault>>
-        ensures case { Spawns (mirrored self.old.failed.writes self.old.inner) group result
-            (mirrored self.new.failed.writes self.new.inner) }
+        ensures case { Spawns (mirrored self.old.trace.calls self.old.inner) group result
+            (mirrored self.new.trace.calls self.new.inner) }
         ensures same { (self.new.root ≡ self.old.root) × (self.new.memory ≡ self.old.memory)
             × (self.new.partition ≡ self.old.partition) }
         ensures files { self.new.files ≡ self.old.files }
         ensures room { self.new.room ≡ self.old.room }
     {
-        self.inner.spawn(group)
+        let answer = self.inner.spawn(group);
+        self.tell(&CallMade::Process(group, answer));
+        answer
     }
 
     /// Ends a group's processes. Those of the root are left: its folder has no file for that.
     pub fn end_group(&mut self, group: Group) -> Result<(), KernelFault>
         requires path { HasRoom (string_capacity self.old.room.path) (string_bytes self.old.root) self.old.inner.tree }
-        ensures case { EndsGroup (mirrored self.old.failed.writes self.old.inner) group result
-            (mirrored self.new.failed.writes self.new.inner) }
+        ensures case { EndsGroup (mirrored self.old.trace.calls self.old.inner) group result
+            (mirrored self.new.trace.calls self.new.inner) }
         ensures asks { MirrorsAt F.asked self.old.files (place_of self.old.inner.tree group)
             (Written (string_bytes self.old.root
             ++ (folder self.old.inner.tree group ++ kill_file)) kill_line) result self.new.files }
@@ -302,22 +341,40 @@ impl<F: GroupFiles> Mirror<F> {
             × (string_capacity self.old.room.line ≤ string_capacity self.new.room.line) }
     {
         if self.inner.requested_cpus(group).is_err() {
-            return self.inner.end_group(group);
+            return self.end_in_model(group);
         }
+        let failed = CallMade::End(group, Err(KernelFault::Failed));
         let (root, kernel) = (self.root.as_str(), &self.inner);
         if kernel.place(group).is_none() {
-            return Err(self.fail());
+            return Err(self.fail(&failed));
         }
         if end_all(&mut self.files, &mut self.room, root, kernel, group).is_err() {
-            return Err(self.fail());
+            return Err(self.fail(&failed));
         }
-        self.inner.end_group(group)
+        self.end_in_model(group)
+    }
+
+    /// Ends a group's processes in the model.
+    fn end_in_model(&mut self, group: Group) -> Result<(), KernelFault>
+        ensures case { EndsGroup (mirrored self.old.trace.calls self.old.inner) group result
+            (mirrored self.new.trace.calls self.new.inner) }
+        ensures model { EndsGroup self.old.inner group result self.new.inner }
+        ensures never_fails { self.new.inner.failures ≡ 0 }
+        ensures root { self.new.root ≡ self.old.root }
+        ensures memory { self.new.memory ≡ self.old.memory }
+        ensures partition { self.new.partition ≡ self.old.partition }
+        ensures files { self.new.files ≡ self.old.files }
+        ensures room { self.new.room ≡ self.old.room }
+    {
+        let answer = self.inner.end_group(group);
+        self.tell(&CallMade::End(group, answer));
+        answer
     }
 
     /// A process forks; nothing is asked.
     pub fn fork(&mut self, parent: u32) -> Result<u32, OrMemory<KernelFault>>
-        ensures case { Forks (mirrored self.old.failed.writes self.old.inner) parent result
-            (mirrored self.new.failed.writes self.new.inner) }
+        ensures case { Forks (mirrored self.old.trace.calls self.old.inner) parent result
+            (mirrored self.new.trace.calls self.new.inner) }
         ensures same { (self.new.root ≡ self.old.root) × (self.new.memory ≡ self.old.memory)
             × (self.new.partition ≡ self.old.partition) }
         ensures files { self.new.files ≡ self.old.files }
@@ -328,8 +385,8 @@ impl<F: GroupFiles> Mirror<F> {
 
     /// A process ends; nothing is asked.
     pub fn exit(&mut self, pid: u32) -> Result<(), KernelFault>
-        ensures case { Exits (mirrored self.old.failed.writes self.old.inner) pid result
-            (mirrored self.new.failed.writes self.new.inner) }
+        ensures case { Exits (mirrored self.old.trace.calls self.old.inner) pid result
+            (mirrored self.new.trace.calls self.new.inner) }
         ensures same { (self.new.root ≡ self.old.root) × (self.new.memory ≡ self.old.memory)
             × (self.new.partition ≡ self.old.partition) }
         ensures files { self.new.files ≡ self.old.files }
@@ -340,8 +397,8 @@ impl<F: GroupFiles> Mirror<F> {
 
     /// A CPU goes offline; nothing is asked.
     pub fn offline(&mut self, cpu: u32) -> Result<(), KernelFault>
-        ensures case { GoesOffline (mirrored self.old.failed.writes self.old.inner) cpu result
-            (mirrored self.new.failed.writes self.new.inner) }
+        ensures case { GoesOffline (mirrored self.old.trace.calls self.old.inner) cpu result
+            (mirrored self.new.trace.calls self.new.inner) }
         ensures same { (self.new.root ≡ self.old.root) × (self.new.memory ≡ self.old.memory)
             × (self.new.partition ≡ self.old.partition) }
         ensures files { self.new.files ≡ self.old.files }
@@ -352,8 +409,8 @@ impl<F: GroupFiles> Mirror<F> {
 
     /// A CPU comes online; nothing is asked.
     pub fn online_cpu(&mut self, cpu: u32) -> Result<(), KernelFault>
-        ensures case { ComesOnline (mirrored self.old.failed.writes self.old.inner) cpu result
-            (mirrored self.new.failed.writes self.new.inner) }
+        ensures case { ComesOnline (mirrored self.old.trace.calls self.old.inner) cpu result
+            (mirrored self.new.trace.calls self.new.inner) }
         ensures same { (self.new.root ≡ self.old.root) × (self.new.memory ≡ self.old.memory)
             × (self.new.partition ≡ self.old.partition) }
         ensures files { self.new.files ≡ self.old.files }

@@ -57,12 +57,12 @@ impl<F: GroupFiles, S: Sited> Model for MirroredKernel<F, S> {
       memory = k.mirror.memory;
       partition = k.mirror.partition;
       inner = k.mirror.inner;
-      failed = k.mirror.failed.writes;
+      trace = k.mirror.trace.calls;
       files = k.mirror.files;
     } };
 
     ghost invariant = { λ k. IsMirroredAt F.asked S.site (string_bytes k.mirror.root) k.mirror.memory
-        k.mirror.partition (mirrored k.mirror.failed.writes k.mirror.inner) k.mirror.files
+        k.mirror.partition (mirrored k.mirror.trace.calls k.mirror.inner) k.mirror.files
         × HasRoom (string_capacity k.mirror.room.path) (string_bytes k.mirror.root) k.mirror.inner.tree
         × (LINE_ROOM ≤ string_capacity k.mirror.room.line) };
 }
@@ -91,7 +91,7 @@ impl<F: GroupFiles, S: Sited> MirroredKernel<F, S> {
         ensures memory { result.memory ≡ memory }
         ensures partition { result.partition ≡ partition }
         ensures files { result.files ≡ files }
-        ensures failed { result.failed ≡ 0 }
+        ensures trace { result.trace ≡ [] }
     {
         inner.root();
         MirroredKernel {
@@ -102,7 +102,7 @@ impl<F: GroupFiles, S: Sited> MirroredKernel<F, S> {
 
     /// All that was asked of the files is what the calls of this kernel stand for, in their order; nothing runs.
     pub fn is_mirrored(&self)
-        ensures mirrored { IsMirrored F.asked S.site (mirrored self.now.failed self.now.inner) self.now.files }
+        ensures mirrored { IsMirrored F.asked S.site (mirrored self.now.trace self.now.inner) self.now.files }
         ensures root { self.now.root ≡ S.site.root }
         ensures memory { self.now.memory ≡ S.site.memory }
         ensures partition { self.now.partition ≡ S.site.partition }
@@ -112,7 +112,7 @@ impl<F: GroupFiles, S: Sited> MirroredKernel<F, S> {
 
     /// Each group's files have what it requests, if files do what they answer and nobody else writes; nothing runs.
     pub fn files_stand(&self)
-        ensures { FilesStand F.asked S.site (mirrored self.now.failed self.now.inner) self.now.files }
+        ensures { FilesStand F.asked S.site (mirrored self.now.trace self.now.inner) self.now.files }
     {
         self.is_mirrored();
     }
@@ -126,11 +126,11 @@ impl<F: GroupFiles, S: Sited> MirroredKernel<F, S> {
 }
 
 impl<F: GroupFiles, S: Sited> Kernel for MirroredKernel<F, S> {
-    ghost state = { λ k. mirrored k.failed k.inner };
+    ghost state = { λ k. mirrored k.trace k.inner };
 
     fn make_group(&mut self, parent: Group, name: &str) -> Result<Group, OrMemory<KernelFault>>
-        ensures case { MakesGroup (mirrored self.old.failed self.old.inner) parent name.now result
-            (mirrored self.new.failed self.new.inner) }
+        ensures case { MakesGroup (mirrored self.old.trace self.old.inner) parent name.now result
+            (mirrored self.new.trace self.new.inner) }
         ensures asks { MirrorsBoth F.asked self.old.files
             (Written (self.old.root ++ (folder self.old.inner.tree parent ++ controls_file)) controls_line)
             (Made (self.old.root ++ (folder self.old.inner.tree parent ++ below name.now)))
@@ -141,8 +141,8 @@ impl<F: GroupFiles, S: Sited> Kernel for MirroredKernel<F, S> {
     }
 
     fn remove_group(&mut self, group: Group) -> Result<(), KernelFault>
-        ensures case { RemovesGroup (mirrored self.old.failed self.old.inner) group result
-            (mirrored self.new.failed self.new.inner) }
+        ensures case { RemovesGroup (mirrored self.old.trace self.old.inner) group result
+            (mirrored self.new.trace self.new.inner) }
         ensures asks { Mirrors F.asked self.old.files
             (Removed (self.old.root ++ (folder self.old.inner.tree group ++ []))) result self.new.files }
     {
@@ -150,8 +150,8 @@ impl<F: GroupFiles, S: Sited> Kernel for MirroredKernel<F, S> {
     }
 
     fn write_cpus(&mut self, group: Group, cpus: IdSet) -> Result<(), KernelFault>
-        ensures case { WritesCpus (mirrored self.old.failed self.old.inner) group cpus result
-            (mirrored self.new.failed self.new.inner) }
+        ensures case { WritesCpus (mirrored self.old.trace self.old.inner) group cpus result
+            (mirrored self.new.trace self.new.inner) }
         ensures asks { MirrorsLooks F.asked self.old.files
             (Written (self.old.root ++ (folder self.old.inner.tree group ++ cpus_file)) (list_line cpus))
             (looks_behind self.old.partition self.old.root
@@ -162,8 +162,8 @@ impl<F: GroupFiles, S: Sited> Kernel for MirroredKernel<F, S> {
     }
 
     fn write_mems(&mut self, group: Group, mems: IdSet) -> Result<(), KernelFault>
-        ensures case { WritesMems (mirrored self.old.failed self.old.inner) group mems result
-            (mirrored self.new.failed self.new.inner) }
+        ensures case { WritesMems (mirrored self.old.trace self.old.inner) group mems result
+            (mirrored self.new.trace self.new.inner) }
         ensures asks { Mirrors F.asked self.old.files
             (Written (self.old.root ++ (folder self.old.inner.tree group
             ++ mems_file)) (list_line (granted mems self.old.memory))) result self.new.files }
@@ -177,8 +177,8 @@ impl<F: GroupFiles, S: Sited> Kernel for MirroredKernel<F, S> {
 
     /// The root's processes are not ended: its folder has no file for that.
     fn end_group(&mut self, group: Group) -> Result<(), KernelFault>
-        ensures case { EndsGroup (mirrored self.old.failed self.old.inner) group result
-            (mirrored self.new.failed self.new.inner) }
+        ensures case { EndsGroup (mirrored self.old.trace self.old.inner) group result
+            (mirrored self.new.trace self.new.inner) }
         ensures asks { MirrorsAt F.asked self.old.files (place_of self.old.inner.tree group)
             (Written (self.old.root ++ (folder self.old.inner.tree group ++ kill_file)) kill_line) result
             self.new.files }

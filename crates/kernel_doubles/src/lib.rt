@@ -7,7 +7,7 @@
 //! # Proved
 //!
 //! - `FusedKernel` meets the trait `Kernel`. It makes its nth write fail, told by the count of writes, and else answers
-//!   as the kernel within.
+//!   as the kernel within. The write that failed is told as the others are.
 //! - What a list of calls answers and leaves is what their cases do, taken in order. It is proved once for any kernel.
 #![tactic(auto)]
 

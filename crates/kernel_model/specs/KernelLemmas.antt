@@ -1,8 +1,8 @@
 -- The laws of kernels, proved.
-use Rattle.std.proofs.Common.{◌≡◌, ◌≢◌, ℕ, ◌+◌, ◌≤◌, Bool, true, false, not, cond, ◌&&◌, ◌||◌, List, [], ◌∷◌, refl, sym, ap, ◌∙◌, subst, arith, add-zero, eq-eqb, eqb-true}
+use Rattle.std.proofs.Common.{◌≡◌, ◌≢◌, ℕ, suc, ◌+◌, ◌≤◌, Bool, true, false, not, cond, ◌&&◌, ◌||◌, List, [], ◌∷◌, refl, sym, ap, ◌∙◌, subst, arith, add-zero, eq-eqb, eqb-true}
 use Rattle.std.proofs.lemmas.Bool.{both_ways}
 use Rattle.std.proofs.lemmas.Option.{same_Some, none-some}
-use Rattle.std.specs.Prelude.{Option, Some, None, Result, Ok, is_some, ◌==◌}
+use Rattle.std.specs.Prelude.{Option, Some, None, Result, Ok, is_some, length, ◌==◌}
 use Rattle.std.specs.FinSet as set
 use Rattle.faults.specs.declared.or_memory.OrMemory.{OrMemory}
 use Rattle.cpu_set.specs.Ids.{Ids}
@@ -25,11 +25,12 @@ use Rattle.proctable.specs.TableWellFormed as table_formed
 use Rattle.proctable.specs.TableLemmas as table
 use Rattle.kernel_model.specs.declared.fault.KernelFault.{KernelFault}
 use Rattle.kernel_model.specs.declared.call.Call.TheVariants.{MakeGroup, RemoveGroup, WriteCpus, WriteMems, Spawn, EndGroup, Root, FindGroup, RequestedCpus, EffectiveCpus, RequestedMems, EffectiveMems, Online, Nodes, FirstAlive, Fork, Exit, Offline, OnlineCpu}
-use Rattle.kernel_model.specs.KernelState.{KernelState, counted, failed}
+use Rattle.kernel_model.specs.KernelState.{KernelState, writes, recorded, failed}
 use Rattle.kernel_model.specs.Refusals.{make_refusal, remove_refusal, write_refusal, spawn_refusal, end_refusal, fork_refusal, exit_refusal, offline_refusal, online_refusal}
-use Rattle.kernel_model.specs.Cases.{is_failed, rise, rise_or_memory, Writes, GrowingWrites, MakesGroup, MakesGroupOf, RemovesGroup, WritesCpus, WritesMems, Spawns, SpawnsIn, EndsGroup, Forks, ForksIn, Exits, GoesOffline, ComesOnline}
+use Rattle.kernel_model.specs.Trace.{WritingCall, MadeGroup, RemovedGroup, WroteCpus, WroteMems, Spawned, EndedGroup, is_failed}
+use Rattle.kernel_model.specs.Cases.{rise, rise_or_memory, Writes, GrowingWrites, MakesGroup, MakesGroupOf, RemovesGroup, RemovesGroupOf, WritesCpus, WritesCpusOf, WritesMems, WritesMemsOf, Spawns, SpawnsIn, EndsGroup, EndsGroupOf, Forks, ForksIn, Exits, GoesOffline, ComesOnline, IsMade}
 use Rattle.kernel_model.specs.WellFormed.{IsWellFormed}
-use Rattle.kernel_model.specs.Laws.{CpusWriteLeaves, MemsWriteLeaves, MakeLeaves, RemoveLeaves, WritesLeaveGroups, SpawnLeaves, EndLeaves, ForkLeaves, ExitLeaves, CallsLeaveProcesses, WritesCount, CountsEachWrite, EachCaseKeeps, KeepsMachine, KeepsGroups, KeepsPids, EventsKeepGroups, WritesKeepProcesses, WritesKeepTree, StepKeeps, StepsKeep, RunsKeep, EmptyWhereNoGroup, FirstIsWellFormed}
+use Rattle.kernel_model.specs.Laws.{CpusWriteLeaves, MemsWriteLeaves, MakeLeaves, RemoveLeaves, WritesLeaveGroups, SpawnLeaves, EndLeaves, ForkLeaves, ExitLeaves, CallsLeaveProcesses, WritesCount, TellsEachWrite, CountsEachWrite, EachCaseKeeps, KeepsMachine, KeepsGroups, KeepsPids, EventsKeepGroups, WritesKeepProcesses, WritesKeepTree, StepKeeps, StepsKeep, RunsKeep, EmptyWhereNoGroup, FirstIsWellFormed}
 use Rattle.kernel_model.specs.CaseLemmas.{Writes-answers, GrowingWrites-answers, Decides-answers, Grows-answers, Decides-keeps, Grows-keeps, Writes-keeps, GrowingWrites-keeps}
 use Rattle.kernel_model.specs.RefusalLemmas.{calls_are_free}
 
@@ -65,8 +66,8 @@ module _ (s t : Ids) (n : ℕ) where
       among q true e h = ap (set.contains t) (eqb-true q n e) ∙ there
       among q false e h = is_subset-contains s t within q h
 
-pub formed_whatever_is_counted : (k : KernelState) (failures writes : ℕ) → IsWellFormed k → IsWellFormed (record k { failures = failures; writes = writes })
-formed_whatever_is_counted k failures writes w = record {
+pub formed_whatever_is_told : (k : KernelState) (failures : ℕ) (trace : List WritingCall) → IsWellFormed k → IsWellFormed (record k { failures = failures; trace = trace })
+formed_whatever_is_told k failures trace w = record {
   tree = w.tree;
   table = w.table;
   placed = w.placed;
@@ -75,7 +76,7 @@ formed_whatever_is_counted k failures writes w = record {
   online_present = w.online_present;
 }
 
--- what stays where the state does, or where a write or a failure is counted
+-- what stays where the state does, or where a writing call is told or a failure counted
 module _ (old : KernelState) where
   same_machine : KeepsMachine old old
   same_machine = record { nodes = refl; present = refl; reserved = refl }
@@ -86,26 +87,26 @@ module _ (old : KernelState) where
   same_pids : KeepsPids old old
   same_pids = record { rise = omega arith; same = λ q p _ at. at }
 
-  keeps_itself : IsWellFormed old → StepKeeps old old
+  pub keeps_itself : IsWellFormed old → StepKeeps old old
   keeps_itself w = record { well_formed = w; machine = same_machine; pids = same_pids; serials = same_serials }
 
-  -- the counts are of no matter
-  whatever_is_counted : (k : KernelState) (failures writes : ℕ) → StepKeeps old k → StepKeeps old (record k { failures = failures; writes = writes })
-  whatever_is_counted k failures writes keeps = record {
-    well_formed = formed_whatever_is_counted k failures writes keeps.well_formed;
+  -- what is told and counted is of no matter
+  pub whatever_is_told : (k : KernelState) (failures : ℕ) (trace : List WritingCall) → StepKeeps old k → StepKeeps old (record k { failures = failures; trace = trace })
+  whatever_is_told k failures trace keeps = record {
+    well_formed = formed_whatever_is_told k failures trace keeps.well_formed;
     machine = record { nodes = keeps.machine.nodes; present = keeps.machine.present; reserved = keeps.machine.reserved };
     pids = record { rise = keeps.pids.rise; same = keeps.pids.same };
     serials = keeps.serials;
   }
 
-  keeps_counted : IsWellFormed old → StepKeeps old (counted old)
-  keeps_counted w = whatever_is_counted old old.failures (old.writes + 1) (keeps_itself w)
+  keeps_recorded : IsWellFormed old → (call : WritingCall) → StepKeeps old (recorded call old)
+  keeps_recorded w call = whatever_is_told old old.failures (call ∷ old.trace) (keeps_itself w)
 
-  keeps_failed : IsWellFormed old → StepKeeps old (failed old)
-  keeps_failed w = whatever_is_counted old (old.failures + 1) (old.writes + 1) (keeps_itself w)
+  keeps_failed : IsWellFormed old → (call : WritingCall) → StepKeeps old (failed call old)
+  keeps_failed w call = whatever_is_told old (old.failures + 1) (call ∷ old.trace) (keeps_itself w)
 
-  and_counted : (k : KernelState) → StepKeeps old k → StepKeeps old (counted k)
-  and_counted k = whatever_is_counted k k.failures (k.writes + 1)
+  and_recorded : (call : WritingCall) (k : KernelState) → StepKeeps old k → StepKeeps old (recorded call k)
+  and_recorded call k = whatever_is_told k k.failures (call ∷ k.trace)
 
   -- those that are left were there
   left_after_end : (new : TableState) (ends : Process → Bool) → SomeEnd old.table new ends → (q : ℕ) (p : Process) → process_of new q ≡ Some p → process_of old.table q ≡ Some p
@@ -201,7 +202,7 @@ module _ (old : KernelState) where
         → StepKeeps old new
     MakesGroup-keeps parent name =
         GrowingWrites-keeps (StepKeeps old) (make_refusal old parent name) (MakesGroupOf old parent name) old
-        (λ g new none does. subst (λ (k : KernelState). StepKeeps old k) (sym does.rest) (and_counted (record old { tree = new.tree }) (
+        (λ g new none does. subst (λ (k : KernelState). StepKeeps old k) (sym does.rest) (and_recorded (MadeGroup parent name (Ok g)) (record old { tree = new.tree }) (
         let added : GroupAdded old.tree new.tree parent name g = tree.added_leaves old.tree new.tree parent name g does.does in
         keeps_with_tree new.tree
         ((tree.stays_well_formed old.tree w.tree).added new.tree parent name g (((calls_are_free old).make parent name).0 none).0 does.does)
@@ -209,50 +210,50 @@ module _ (old : KernelState) where
         (ap (λ (t : TreeState). t.online) does.does.added)
         (ap (λ (t : TreeState). t.nodes) does.does.added)
         ((tree.serials_given_once old.tree).added new.tree parent name g does.does))))
-        (keeps_counted w) (keeps_failed w)
+        (keeps_recorded w) (keeps_failed w) (MadeGroup parent name)
 
     pub RemovesGroup-keeps : (g : Group) (r : Result (Unit {0}) KernelFault) (new : KernelState) → RemovesGroup old g r new → StepKeeps old new
     RemovesGroup-keeps g =
-        Writes-keeps (StepKeeps old) (remove_refusal old g) (λ _ new. new ≡ record (counted old) { tree = without_group old.tree g }) old
-        (λ _ new none does. subst (λ (k : KernelState). StepKeeps old k) (sym does) (and_counted (record old { tree = without_group old.tree g }) (
+        Writes-keeps (StepKeeps old) (remove_refusal old g) (RemovesGroupOf old g) old
+        (λ v new none does. subst (λ (k : KernelState). StepKeeps old k) (sym does) (and_recorded (RemovedGroup g (Ok v)) (record old { tree = without_group old.tree g }) (
         let free = ((calls_are_free old).remove g).0 none in
         keeps_with_tree (without_group old.tree g)
         ((tree.stays_well_formed old.tree w.tree).removed g free.1 free.2)
         (λ q p at there.
         ap is_some ((tree.removed_leaves old.tree g).others p.group (same_group_sym g p.group ∙ table.none_where_none_counted old.table g free.3 q p at)) ∙ there)
         refl refl ((tree.serials_given_once old.tree).removed g))))
-        (keeps_counted w) (keeps_failed w)
+        (keeps_recorded w) (keeps_failed w) (RemovedGroup g)
 
     pub WritesCpus-keeps : (g : Group) (cpus : Ids) (r : Result (Unit {0}) KernelFault) (new : KernelState) → WritesCpus old g cpus r new → StepKeeps old new
     WritesCpus-keeps g cpus =
-        Writes-keeps (StepKeeps old) (write_refusal old g) (λ _ new. new ≡ record (counted old) { tree = with_cpus old.tree g cpus }) old
-        (λ _ new none does. subst (λ (k : KernelState). StepKeeps old k) (sym does)
-        (and_counted (record old { tree = with_cpus old.tree g cpus }) (keeps_with_tree (with_cpus old.tree g cpus) ((tree.stays_well_formed old.tree w.tree).cpus g cpus)
+        Writes-keeps (StepKeeps old) (write_refusal old g) (WritesCpusOf old g cpus) old
+        (λ v new none does. subst (λ (k : KernelState). StepKeeps old k) (sym does)
+        (and_recorded (WroteCpus g cpus (Ok v)) (record old { tree = with_cpus old.tree g cpus }) (keeps_with_tree (with_cpus old.tree g cpus) ((tree.stays_well_formed old.tree w.tree).cpus g cpus)
         (λ q p at there. (tree.writes_request.0 old.tree g cpus).there p.group ∙ there) refl refl ((tree.serials_given_once old.tree).cpus g cpus))))
-        (keeps_counted w) (keeps_failed w)
+        (keeps_recorded w) (keeps_failed w) (WroteCpus g cpus)
 
     pub WritesMems-keeps : (g : Group) (mems : Ids) (r : Result (Unit {0}) KernelFault) (new : KernelState) → WritesMems old g mems r new → StepKeeps old new
     WritesMems-keeps g mems =
-        Writes-keeps (StepKeeps old) (write_refusal old g) (λ _ new. new ≡ record (counted old) { tree = with_mems old.tree g mems }) old
-        (λ _ new none does. subst (λ (k : KernelState). StepKeeps old k) (sym does)
-        (and_counted (record old { tree = with_mems old.tree g mems }) (keeps_with_tree (with_mems old.tree g mems) ((tree.stays_well_formed old.tree w.tree).mems g mems)
+        Writes-keeps (StepKeeps old) (write_refusal old g) (WritesMemsOf old g mems) old
+        (λ v new none does. subst (λ (k : KernelState). StepKeeps old k) (sym does)
+        (and_recorded (WroteMems g mems (Ok v)) (record old { tree = with_mems old.tree g mems }) (keeps_with_tree (with_mems old.tree g mems) ((tree.stays_well_formed old.tree w.tree).mems g mems)
         (λ q p at there. (tree.writes_request.1 old.tree g mems).there p.group ∙ there) refl refl ((tree.serials_given_once old.tree).mems g mems))))
-        (keeps_counted w) (keeps_failed w)
+        (keeps_recorded w) (keeps_failed w) (WroteMems g mems)
 
     pub Spawns-keeps : (g : Group) (r : Result ℕ (OrMemory KernelFault)) (new : KernelState) → Spawns old g r new → StepKeeps old new
     Spawns-keeps g =
         GrowingWrites-keeps (StepKeeps old) (spawn_refusal old g) (SpawnsIn old g) old
         (λ pid new none does. subst (λ (k : KernelState). StepKeeps old k) (sym does.rest)
-        (and_counted (record old { table = new.table }) (keeps_with_process new.table g pid pid does.does ((table.stays_well_formed old.table w.table).spawned new.table g pid does.does)
+        (and_recorded (Spawned g (Ok pid)) (record old { table = new.table }) (keeps_with_process new.table g pid pid does.does ((table.stays_well_formed old.table w.table).spawned new.table g pid does.does)
         (((calls_are_free old).spawn g).0 none).0)))
-        (keeps_counted w) (keeps_failed w)
+        (keeps_recorded w) (keeps_failed w) (Spawned g)
 
     pub EndsGroup-keeps : (g : Group) (r : Result (Unit {0}) KernelFault) (new : KernelState) → EndsGroup old g r new → StepKeeps old new
     EndsGroup-keeps g =
-        Writes-keeps (StepKeeps old) (end_refusal old g) (λ _ new. new ≡ record (counted old) { table = ended_in old.table g }) old
-        (λ _ new none does. subst (λ (k : KernelState). StepKeeps old k) (sym does)
-        (and_counted (record old { table = ended_in old.table g }) (keeps_with_fewer (ended_in old.table g) (λ p. same_group p.group g) (table.ended_leaves old.table g w.table) ((table.stays_well_formed old.table w.table).ended g) refl)))
-        (keeps_counted w) (keeps_failed w)
+        Writes-keeps (StepKeeps old) (end_refusal old g) (EndsGroupOf old g) old
+        (λ v new none does. subst (λ (k : KernelState). StepKeeps old k) (sym does)
+        (and_recorded (EndedGroup g (Ok v)) (record old { table = ended_in old.table g }) (keeps_with_fewer (ended_in old.table g) (λ p. same_group p.group g) (table.ended_leaves old.table g w.table) ((table.stays_well_formed old.table w.table).ended g) refl)))
+        (keeps_recorded w) (keeps_failed w) (EndedGroup g)
 
     pub Forks-keeps : (parent : ℕ) (r : Result ℕ (OrMemory KernelFault)) (new : KernelState) → Forks old parent r new → StepKeeps old new
     Forks-keeps parent =
@@ -349,17 +350,17 @@ runs_keep old new (call ∷ calls) (r ∷ replies) w (mid, step, rest) =
 pub events_keep_groups : EventsKeepGroups
 events_keep_groups = record {
   fork = λ old new parent. λ r. Grows-keeps (λ k. KeepsGroups old k × (k.tree.online ≡ old.tree.online)) (fork_refusal old parent) (ForksIn old parent) old
-      (λ pid k none does. subst (λ (s : KernelState). KeepsGroups old s × (s.tree.online ≡ old.tree.online)) (sym does.rest) (record { groups = refl; next_serial = refl; failures = refl; writes = refl }, refl)) (stays old, refl) r new;
+      (λ pid k none does. subst (λ (s : KernelState). KeepsGroups old s × (s.tree.online ≡ old.tree.online)) (sym does.rest) (record { groups = refl; next_serial = refl; failures = refl; trace = refl }, refl)) (stays old, refl) r new;
   exit = λ old new pid r. Decides-keeps (λ k. KeepsGroups old k × (k.tree.online ≡ old.tree.online)) (exit_refusal old pid) (λ _ s. s ≡ record old { table = exited old.table pid }) old
-      (λ _ k none does. subst (λ (s : KernelState). KeepsGroups old s × (s.tree.online ≡ old.tree.online)) (sym does) (record { groups = refl; next_serial = refl; failures = refl; writes = refl }, refl)) (stays old, refl) r new;
+      (λ _ k none does. subst (λ (s : KernelState). KeepsGroups old s × (s.tree.online ≡ old.tree.online)) (sym does) (record { groups = refl; next_serial = refl; failures = refl; trace = refl }, refl)) (stays old, refl) r new;
   offline = λ old new cpu r. Decides-keeps (λ k. KeepsGroups old k × (k.table ≡ old.table)) (offline_refusal old cpu) (λ _ s. s ≡ record old { tree = with_online old.tree (set.remove old.tree.online cpu) }) old
-      (λ _ k none does. subst (λ (s : KernelState). KeepsGroups old s × (s.table ≡ old.table)) (sym does) (record { groups = refl; next_serial = refl; failures = refl; writes = refl }, refl)) (stays old, refl) r new;
+      (λ _ k none does. subst (λ (s : KernelState). KeepsGroups old s × (s.table ≡ old.table)) (sym does) (record { groups = refl; next_serial = refl; failures = refl; trace = refl }, refl)) (stays old, refl) r new;
   online = λ old new cpu r. Decides-keeps (λ k. KeepsGroups old k × (k.table ≡ old.table)) (online_refusal old cpu) (λ _ s. s ≡ record old { tree = with_online old.tree (set.insert old.tree.online cpu) }) old
-      (λ _ k none does. subst (λ (s : KernelState). KeepsGroups old s × (s.table ≡ old.table)) (sym does) (record { groups = refl; next_serial = refl; failures = refl; writes = refl }, refl)) (stays old, refl) r new;
+      (λ _ k none does. subst (λ (s : KernelState). KeepsGroups old s × (s.table ≡ old.table)) (sym does) (record { groups = refl; next_serial = refl; failures = refl; trace = refl }, refl)) (stays old, refl) r new;
 }
   where
     stays : (old : KernelState) → KeepsGroups old old
-    stays old = record { groups = refl; next_serial = refl; failures = refl; writes = refl }
+    stays old = record { groups = refl; next_serial = refl; failures = refl; trace = refl }
 
 abbrev Same : KernelState → KernelState → Type 0
 Same old new = (new.table ≡ old.table) × (new.tree.online ≡ old.tree.online)
@@ -367,21 +368,21 @@ Same old new = (new.table ≡ old.table) × (new.tree.online ≡ old.tree.online
 pub writes_keep_processes : WritesKeepProcesses
 writes_keep_processes = record {
   make = λ old new parent name r. GrowingWrites-keeps (Same old) (make_refusal old parent name) (MakesGroupOf old parent name) old
-      (λ g k none does. subst (λ (s : KernelState). Same old s) (sym does.rest) (refl, ap (λ (t : TreeState). t.online) does.does.added)) (refl, refl) (refl, refl) r new;
-  remove = λ old new g r. Writes-keeps (Same old) (remove_refusal old g) (λ _ s. s ≡ record (counted old) { tree = without_group old.tree g }) old
-      (λ _ k none does. subst (λ (s : KernelState). Same old s) (sym does) (refl, refl)) (refl, refl) (refl, refl) r new;
-  cpus = λ old new g cpus r. Writes-keeps (Same old) (write_refusal old g) (λ _ s. s ≡ record (counted old) { tree = with_cpus old.tree g cpus }) old
-      (λ _ k none does. subst (λ (s : KernelState). Same old s) (sym does) (refl, refl)) (refl, refl) (refl, refl) r new;
-  mems = λ old new g mems r. Writes-keeps (Same old) (write_refusal old g) (λ _ s. s ≡ record (counted old) { tree = with_mems old.tree g mems }) old
-      (λ _ k none does. subst (λ (s : KernelState). Same old s) (sym does) (refl, refl)) (refl, refl) (refl, refl) r new;
+      (λ g k none does. subst (λ (s : KernelState). Same old s) (sym does.rest) (refl, ap (λ (t : TreeState). t.online) does.does.added)) (λ _. (refl, refl)) (λ _. (refl, refl)) (MadeGroup parent name) r new;
+  remove = λ old new g r. Writes-keeps (Same old) (remove_refusal old g) (RemovesGroupOf old g) old
+      (λ _ k none does. subst (λ (s : KernelState). Same old s) (sym does) (refl, refl)) (λ _. (refl, refl)) (λ _. (refl, refl)) (RemovedGroup g) r new;
+  cpus = λ old new g cpus r. Writes-keeps (Same old) (write_refusal old g) (WritesCpusOf old g cpus) old
+      (λ _ k none does. subst (λ (s : KernelState). Same old s) (sym does) (refl, refl)) (λ _. (refl, refl)) (λ _. (refl, refl)) (WroteCpus g cpus) r new;
+  mems = λ old new g mems r. Writes-keeps (Same old) (write_refusal old g) (WritesMemsOf old g mems) old
+      (λ _ k none does. subst (λ (s : KernelState). Same old s) (sym does) (refl, refl)) (λ _. (refl, refl)) (λ _. (refl, refl)) (WroteMems g mems) r new;
 }
 
 pub writes_keep_tree : WritesKeepTree
 writes_keep_tree = record {
   spawn = λ old new g r. GrowingWrites-keeps (λ s. s.tree ≡ old.tree) (spawn_refusal old g) (SpawnsIn old g) old
-      (λ pid k none does. subst (λ (s : KernelState). s.tree ≡ old.tree) (sym does.rest) refl) refl refl r new;
-  end = λ old new g r. Writes-keeps (λ s. s.tree ≡ old.tree) (end_refusal old g) (λ _ s. s ≡ record (counted old) { table = ended_in old.table g }) old
-      (λ _ k none does. subst (λ (s : KernelState). s.tree ≡ old.tree) (sym does) refl) refl refl r new;
+      (λ pid k none does. subst (λ (s : KernelState). s.tree ≡ old.tree) (sym does.rest) refl) (λ _. refl) (λ _. refl) (Spawned g) r new;
+  end = λ old new g r. Writes-keeps (λ s. s.tree ≡ old.tree) (end_refusal old g) (EndsGroupOf old g) old
+      (λ _ k none does. subst (λ (s : KernelState). s.tree ≡ old.tree) (sym does) refl) (λ _. refl) (λ _. refl) (EndedGroup g) r new;
 }
 
 pub empty_where_no_group : EmptyWhereNoGroup
@@ -430,19 +431,19 @@ itself_alike s = record {
 
 pub writes_leave_groups : WritesLeaveGroups
 writes_leave_groups = record {
-  make = λ old new parent name r. GrowingWrites-answers (make_refusal old parent name) (MakesGroupOf old parent name) old (λ r k. MakeLeaves old parent name r k)
+  make = λ old new parent name r. GrowingWrites-answers (make_refusal old parent name) (MakesGroupOf old parent name) old (MadeGroup parent name) (λ r k. MakeLeaves old parent name r k)
       (λ g k none does.
       let added : GroupAdded old.tree k.tree parent name g = tree.added_leaves old.tree k.tree parent name g does.does in
       record { made = added; refused = tt; cpus = added.cpus; mems = added.mems })
       (record { made = tt; refused = refl; cpus = λ p. refl; mems = λ p. refl })
       (record { made = tt; refused = refl; cpus = λ p. refl; mems = λ p. refl })
       (λ fault other against. record { made = tt; refused = refl; cpus = λ p. refl; mems = λ p. refl }) r new;
-  remove = λ old new g r. Writes-answers (remove_refusal old g) (λ _ s. s ≡ record (counted old) { tree = without_group old.tree g }) old (λ r k. RemoveLeaves old g r k)
+  remove = λ old new g r. Writes-answers (remove_refusal old g) (RemovesGroupOf old g) old (RemovedGroup g) (λ r k. RemoveLeaves old g r k)
       (λ v k none does. subst (λ (s : KernelState). RemoveLeaves old g (Ok v) s) (sym does)
       (record { gone = (tree.removed_leaves old.tree g).gone; refused = tt; apart = (tree.removed_leaves old.tree g).others }))
       (record { gone = tt; refused = refl; apart = λ p _. refl })
       (λ fault other against. record { gone = tt; refused = refl; apart = λ p _. refl }) r new;
-  cpus = λ old new g cpus r. Writes-answers (write_refusal old g) (λ _ s. s ≡ record (counted old) { tree = with_cpus old.tree g cpus }) old (λ r k. CpusWriteLeaves old g cpus r k)
+  cpus = λ old new g cpus r. Writes-answers (write_refusal old g) (WritesCpusOf old g cpus) old (WroteCpus g cpus) (λ r k. CpusWriteLeaves old g cpus r k)
       (λ v k none does. subst (λ (s : KernelState). CpusWriteLeaves old g cpus (Ok v) s) (sym does) (
       let written = tree.writes_request.0 old.tree g cpus in
       record {
@@ -455,7 +456,7 @@ writes_leave_groups = record {
       }))
       (record { own = tt; refused = refl; others = λ p _. refl; apart = λ p _. refl; mems = λ p. refl; places = itself_alike old.tree })
       (λ fault other against. record { own = tt; refused = refl; others = λ p _. refl; apart = λ p _. refl; mems = λ p. refl; places = itself_alike old.tree }) r new;
-  mems = λ old new g mems r. Writes-answers (write_refusal old g) (λ _ s. s ≡ record (counted old) { tree = with_mems old.tree g mems }) old (λ r k. MemsWriteLeaves old g mems r k)
+  mems = λ old new g mems r. Writes-answers (write_refusal old g) (WritesMemsOf old g mems) old (WroteMems g mems) (λ r k. MemsWriteLeaves old g mems r k)
       (λ v k none does. subst (λ (s : KernelState). MemsWriteLeaves old g mems (Ok v) s) (sym does) (
       let written = tree.writes_request.1 old.tree g mems in
       record {
@@ -473,12 +474,12 @@ writes_leave_groups = record {
 -- what a call leaves of the processes
 pub calls_leave_processes : CallsLeaveProcesses
 calls_leave_processes = record {
-  spawn = λ old new g r. GrowingWrites-answers (spawn_refusal old g) (SpawnsIn old g) old (λ r k. SpawnLeaves old g r k)
+  spawn = λ old new g r. GrowingWrites-answers (spawn_refusal old g) (SpawnsIn old g) old (Spawned g) (λ r k. SpawnLeaves old g r k)
       (λ pid k none does. record { made = table.added_leaves old.table k.table g pid pid does.does; refused = tt })
       (record { made = tt; refused = refl })
       (record { made = tt; refused = refl })
       (λ fault other against. record { made = tt; refused = refl }) r new;
-  end = λ old new g r w. Writes-answers (end_refusal old g) (λ _ s. s ≡ record (counted old) { table = ended_in old.table g }) old (λ r k. EndLeaves old g r k)
+  end = λ old new g r w. Writes-answers (end_refusal old g) (EndsGroupOf old g) old (EndedGroup g) (λ r k. EndLeaves old g r k)
       (λ v k none does. subst (λ (s : KernelState). EndLeaves old g (Ok v) s) (sym does)
       (record { ended = table.ended_leaves old.table g w.table; empty = table.ended_is_empty old.table g; refused = tt }))
       (record { ended = tt; empty = tt; refused = refl })
@@ -506,41 +507,61 @@ module _ {A : Type 0} (refusal : Option KernelFault) (Does : A → KernelState �
   not_risen : (fault : KernelFault) → is_failed fault ≡ false → old.failures ≡ old.failures + cond (is_failed fault) 1 0
   not_risen fault other = sym (add-zero old.failures) ∙ ap (λ (b : Bool). old.failures + cond b 1 0) (sym other)
 
-  Writes-count : (r : Result A KernelFault) (new : KernelState) → Writes refusal Does old r new → new.failures ≡ old.failures + rise r
-  Writes-count = Writes-answers refusal Does old (λ r k. k.failures ≡ old.failures + rise r)
+  Writes-count : (call : Result A KernelFault → WritingCall) (r : Result A KernelFault) (new : KernelState) → Writes call refusal Does old r new
+      → new.failures ≡ old.failures + rise r
+  Writes-count call = Writes-answers refusal Does old call (λ r k. k.failures ≡ old.failures + rise r)
       (λ value new _ d. let same : new.failures ≡ old.failures = does value new d in omega arith) refl (λ fault other _. not_risen fault other)
 
-  GrowingWrites-count : (r : Result A (OrMemory KernelFault)) (new : KernelState) → GrowingWrites refusal Does old r new
-      → new.failures ≡ old.failures + rise_or_memory r
-  GrowingWrites-count = GrowingWrites-answers refusal Does old (λ r k. k.failures ≡ old.failures + rise_or_memory r)
+  GrowingWrites-count : (call : Result A (OrMemory KernelFault) → WritingCall) (r : Result A (OrMemory KernelFault)) (new : KernelState)
+      → GrowingWrites call refusal Does old r new → new.failures ≡ old.failures + rise_or_memory r
+  GrowingWrites-count call = GrowingWrites-answers refusal Does old call (λ r k. k.failures ≡ old.failures + rise_or_memory r)
       (λ value new _ d. let same : new.failures ≡ old.failures = does value new d in omega arith) (omega arith) refl (λ fault other _. not_risen fault other)
 
 pub writes_count : WritesCount
 writes_count = record {
   make = λ old new parent name r. GrowingWrites-count (make_refusal old parent name) (MakesGroupOf old parent name) old
-      (λ g k does. ap (λ (s : KernelState). s.failures) does.rest) r new;
-  remove = λ old new g r. Writes-count (remove_refusal old g) (λ _ s. s ≡ record (counted old) { tree = without_group old.tree g }) old (λ _ k is. ap (λ (s : KernelState). s.failures) is) r new;
-  cpus = λ old new g cpus r. Writes-count (write_refusal old g) (λ _ s. s ≡ record (counted old) { tree = with_cpus old.tree g cpus }) old (λ _ k is. ap (λ (s : KernelState). s.failures) is) r new;
-  mems = λ old new g mems r. Writes-count (write_refusal old g) (λ _ s. s ≡ record (counted old) { tree = with_mems old.tree g mems }) old (λ _ k is. ap (λ (s : KernelState). s.failures) is) r new;
-  spawn = λ old new g r. GrowingWrites-count (spawn_refusal old g) (SpawnsIn old g) old (λ pid k does. ap (λ (s : KernelState). s.failures) does.rest) r new;
-  end = λ old new g r. Writes-count (end_refusal old g) (λ _ s. s ≡ record (counted old) { table = ended_in old.table g }) old (λ _ k is. ap (λ (s : KernelState). s.failures) is) r new;
+      (λ g k does. ap (λ (s : KernelState). s.failures) does.rest) (MadeGroup parent name) r new;
+  remove = λ old new g r. Writes-count (remove_refusal old g) (RemovesGroupOf old g) old (λ _ k is. ap (λ (s : KernelState). s.failures) is) (RemovedGroup g) r new;
+  cpus = λ old new g cpus r. Writes-count (write_refusal old g) (WritesCpusOf old g cpus) old (λ _ k is. ap (λ (s : KernelState). s.failures) is) (WroteCpus g cpus) r new;
+  mems = λ old new g mems r. Writes-count (write_refusal old g) (WritesMemsOf old g mems) old (λ _ k is. ap (λ (s : KernelState). s.failures) is) (WroteMems g mems) r new;
+  spawn = λ old new g r. GrowingWrites-count (spawn_refusal old g) (SpawnsIn old g) old (λ pid k does. ap (λ (s : KernelState). s.failures) does.rest) (Spawned g) r new;
+  end = λ old new g r. Writes-count (end_refusal old g) (EndsGroupOf old g) old (λ _ k is. ap (λ (s : KernelState). s.failures) is) (EndedGroup g) r new;
 }
 
--- the count of writes
-module _ {A : Type 0} (refusal : Option KernelFault) (Does : A → KernelState → Type 0) (old : KernelState)
-    (does : (value : A) (new : KernelState) → Does value new → new.writes ≡ old.writes + 1) where
-  Writes-one : (r : Result A KernelFault) (new : KernelState) → Writes refusal Does old r new → new.writes ≡ old.writes + 1
-  Writes-one = Writes-keeps (λ k. k.writes ≡ old.writes + 1) refusal Does old (λ value new _. does value new) refl refl
+-- what is told
+module _ {A : Type 0} (refusal : Option KernelFault) (Does : A → KernelState → Type 0) (old : KernelState) where
+  Writes-told : (call : Result A KernelFault → WritingCall) → ((value : A) (new : KernelState) → Does value new → new.trace ≡ call (Ok value) ∷ old.trace)
+      → (r : Result A KernelFault) (new : KernelState) → Writes call refusal Does old r new → new.trace ≡ call r ∷ old.trace
+  Writes-told call does = Writes-answers refusal Does old call (λ r k. k.trace ≡ call r ∷ old.trace) (λ value new _. does value new) refl (λ fault other against. refl)
 
-  GrowingWrites-one : (r : Result A (OrMemory KernelFault)) (new : KernelState) → GrowingWrites refusal Does old r new → new.writes ≡ old.writes + 1
-  GrowingWrites-one = GrowingWrites-keeps (λ k. k.writes ≡ old.writes + 1) refusal Does old (λ value new _. does value new) refl refl
+  GrowingWrites-told : (call : Result A (OrMemory KernelFault) → WritingCall) → ((value : A) (new : KernelState) → Does value new → new.trace ≡ call (Ok value) ∷ old.trace)
+      → (r : Result A (OrMemory KernelFault)) (new : KernelState) → GrowingWrites call refusal Does old r new → new.trace ≡ call r ∷ old.trace
+  GrowingWrites-told call does =
+      GrowingWrites-answers refusal Does old call (λ r k. k.trace ≡ call r ∷ old.trace) (λ value new _. does value new) refl refl (λ fault other against. refl)
+
+abbrev trace_of : KernelState → List WritingCall
+trace_of k = k.trace
+
+pub tells_each_write : TellsEachWrite
+tells_each_write old (MadeGroup parent name r) new =
+    GrowingWrites-told (make_refusal old parent name) (MakesGroupOf old parent name) old (MadeGroup parent name) (λ g k does. ap trace_of does.rest) r new
+tells_each_write old (RemovedGroup g r) new = Writes-told (remove_refusal old g) (RemovesGroupOf old g) old (RemovedGroup g) (λ _ k is. ap trace_of is) r new
+tells_each_write old (WroteCpus g cpus r) new = Writes-told (write_refusal old g) (WritesCpusOf old g cpus) old (WroteCpus g cpus) (λ _ k is. ap trace_of is) r new
+tells_each_write old (WroteMems g mems r) new = Writes-told (write_refusal old g) (WritesMemsOf old g mems) old (WroteMems g mems) (λ _ k is. ap trace_of is) r new
+tells_each_write old (Spawned g r) new = GrowingWrites-told (spawn_refusal old g) (SpawnsIn old g) old (Spawned g) (λ pid k does. ap trace_of does.rest) r new
+tells_each_write old (EndedGroup g r) new = Writes-told (end_refusal old g) (EndsGroupOf old g) old (EndedGroup g) (λ _ k is. ap trace_of is) r new
+
+-- the count of writes
+one_written : (old : KernelState) (call : WritingCall) (new : KernelState) → IsMade old call new → writes new ≡ writes old + 1
+one_written old call new made =
+    let told : length new.trace ≡ suc (length old.trace) = ap (λ (t : List WritingCall). length t) (tells_each_write old call new made) in omega (arith, told)
 
 pub counts_each_write : CountsEachWrite
 counts_each_write = record {
-  make = λ old new parent name r. GrowingWrites-one (make_refusal old parent name) (MakesGroupOf old parent name) old (λ g k does. ap (λ (s : KernelState). s.writes) does.rest) r new;
-  remove = λ old new g r. Writes-one (remove_refusal old g) (λ _ s. s ≡ record (counted old) { tree = without_group old.tree g }) old (λ _ k is. ap (λ (s : KernelState). s.writes) is) r new;
-  cpus = λ old new g cpus r. Writes-one (write_refusal old g) (λ _ s. s ≡ record (counted old) { tree = with_cpus old.tree g cpus }) old (λ _ k is. ap (λ (s : KernelState). s.writes) is) r new;
-  mems = λ old new g mems r. Writes-one (write_refusal old g) (λ _ s. s ≡ record (counted old) { tree = with_mems old.tree g mems }) old (λ _ k is. ap (λ (s : KernelState). s.writes) is) r new;
-  spawn = λ old new g r. GrowingWrites-one (spawn_refusal old g) (SpawnsIn old g) old (λ pid k does. ap (λ (s : KernelState). s.writes) does.rest) r new;
-  end = λ old new g r. Writes-one (end_refusal old g) (λ _ s. s ≡ record (counted old) { table = ended_in old.table g }) old (λ _ k is. ap (λ (s : KernelState). s.writes) is) r new;
+  make = λ old new parent name r. one_written old (MadeGroup parent name r) new;
+  remove = λ old new g r. one_written old (RemovedGroup g r) new;
+  cpus = λ old new g cpus r. one_written old (WroteCpus g cpus r) new;
+  mems = λ old new g mems r. one_written old (WroteMems g mems r) new;
+  spawn = λ old new g r. one_written old (Spawned g r) new;
+  end = λ old new g r. one_written old (EndedGroup g r) new;
 }

@@ -1,5 +1,5 @@
 -- What each case leaves of a kernel, for those that stand on the trait alone.
-use Rattle.std.specs.Prelude.{◌≡◌, ◌≢◌, ◌↔◌, ℕ, ◌+◌, ◌<◌, ◌≤◌, true, false, List, Some, None, is_some, Result, IfOk, OnErr}
+use Rattle.std.specs.Prelude.{◌≡◌, ◌≢◌, ◌↔◌, ℕ, ◌+◌, ◌<◌, ◌≤◌, true, false, List, ◌∷◌, Some, None, is_some, Result, IfOk, OnErr}
 use Rattle.std.specs.FinSet as set
 use Rattle.faults.specs.declared.or_memory.OrMemory.{OrMemory}
 use Rattle.cpu_set.specs.Ids.{Ids}
@@ -16,9 +16,10 @@ use Rattle.kernel_model.specs.declared.fault.KernelFault.{KernelFault}
 use Rattle.kernel_model.specs.declared.fault.KernelFault.TheVariants.{NoGroup, Exists, HasChildren, HasProcesses, IsRoot, NoPids, NoProcess, NoSerials, Reserved, NoCpu}
 use Rattle.kernel_model.specs.declared.call.Call.{Call}
 use Rattle.kernel_model.specs.declared.call.Reply.{Reply}
-use Rattle.kernel_model.specs.KernelState.{KernelState, IsFirstKernel}
+use Rattle.kernel_model.specs.Trace.{WritingCall}
+use Rattle.kernel_model.specs.KernelState.{KernelState, writes, IsFirstKernel}
 use Rattle.kernel_model.specs.Refusals.{make_refusal, remove_refusal, write_refusal, spawn_refusal, end_refusal, fork_refusal, exit_refusal, offline_refusal, online_refusal}
-use Rattle.kernel_model.specs.Cases.{rise, rise_or_memory, MakesGroup, RemovesGroup, WritesCpus, WritesMems, Spawns, EndsGroup, Forks, Exits, GoesOffline, ComesOnline}
+use Rattle.kernel_model.specs.Cases.{rise, rise_or_memory, MakesGroup, RemovesGroup, WritesCpus, WritesMems, Spawns, EndsGroup, Forks, Exits, GoesOffline, ComesOnline, IsMade}
 use Rattle.kernel_model.specs.Runs.{Step, Run}
 use Rattle.kernel_model.specs.WellFormed.{IsWellFormed}
 
@@ -28,12 +29,12 @@ pub record KeepsMachine (old new : KernelState) : Type 0 where
   pub present : new.present ≡ old.present
   pub reserved : new.reserved ≡ old.reserved
 
--- the groups stay, with their parents, their names and all that they request, and no write and no failure was counted
+-- the groups stay, with their parents, their names and all that they request, and no writing call was told and no failure counted
 pub record KeepsGroups (old new : KernelState) : Type 0 where
   pub groups : new.tree.groups ≡ old.tree.groups
   pub next_serial : new.tree.next_serial ≡ old.tree.next_serial
   pub failures : new.failures ≡ old.failures
-  pub writes : new.writes ≡ old.writes
+  pub trace : new.trace ≡ old.trace
 
 -- the pids rise; a process that is there of a pid that was given before is the one that was there
 pub record KeepsPids (old new : KernelState) : Type 0 where
@@ -147,15 +148,19 @@ pub record WritesCount : Type 0 where
   pub spawn : (old new : KernelState) (g : Group) (r : Result ℕ (OrMemory KernelFault)) → Spawns old g r new → new.failures ≡ old.failures + rise_or_memory r
   pub end : (old new : KernelState) (g : Group) (r : Result (Unit {0}) KernelFault) → EndsGroup old g r new → new.failures ≡ old.failures + rise r
 
+-- each writing call is told, with what it answered, and no other
+abbrev pub TellsEachWrite : Type 0
+TellsEachWrite = (old : KernelState) (call : WritingCall) (new : KernelState) → IsMade old call new → new.trace ≡ call ∷ old.trace
+
 -- each write is counted as a write, whatever it answers
 pub record CountsEachWrite : Type 0 where
   pub make : (old new : KernelState) (parent : Group) (name : List ℕ) (r : Result Group (OrMemory KernelFault)) → MakesGroup old parent name r new
-      → new.writes ≡ old.writes + 1
-  pub remove : (old new : KernelState) (g : Group) (r : Result (Unit {0}) KernelFault) → RemovesGroup old g r new → new.writes ≡ old.writes + 1
-  pub cpus : (old new : KernelState) (g : Group) (cpus : Ids) (r : Result (Unit {0}) KernelFault) → WritesCpus old g cpus r new → new.writes ≡ old.writes + 1
-  pub mems : (old new : KernelState) (g : Group) (mems : Ids) (r : Result (Unit {0}) KernelFault) → WritesMems old g mems r new → new.writes ≡ old.writes + 1
-  pub spawn : (old new : KernelState) (g : Group) (r : Result ℕ (OrMemory KernelFault)) → Spawns old g r new → new.writes ≡ old.writes + 1
-  pub end : (old new : KernelState) (g : Group) (r : Result (Unit {0}) KernelFault) → EndsGroup old g r new → new.writes ≡ old.writes + 1
+      → writes new ≡ writes old + 1
+  pub remove : (old new : KernelState) (g : Group) (r : Result (Unit {0}) KernelFault) → RemovesGroup old g r new → writes new ≡ writes old + 1
+  pub cpus : (old new : KernelState) (g : Group) (cpus : Ids) (r : Result (Unit {0}) KernelFault) → WritesCpus old g cpus r new → writes new ≡ writes old + 1
+  pub mems : (old new : KernelState) (g : Group) (mems : Ids) (r : Result (Unit {0}) KernelFault) → WritesMems old g mems r new → writes new ≡ writes old + 1
+  pub spawn : (old new : KernelState) (g : Group) (r : Result ℕ (OrMemory KernelFault)) → Spawns old g r new → writes new ≡ writes old + 1
+  pub end : (old new : KernelState) (g : Group) (r : Result (Unit {0}) KernelFault) → EndsGroup old g r new → writes new ≡ writes old + 1
 
 -- when nothing stands against a call
 pub record NothingAgainst (k : KernelState) : Type 0 where

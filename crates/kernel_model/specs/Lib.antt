@@ -15,6 +15,9 @@ pub use Rattle.proctable.specs.TableLaws
 pub use Rattle.proctable.specs.TableLemmas
 pub mod FaultTitle
 pub mod Faults
+pub mod Trace
+pub mod TraceCodeLemmas
+pub mod Told
 pub mod KernelState
 pub mod Refusals
 pub mod Cases
@@ -24,6 +27,7 @@ pub mod Laws
 pub mod CaseLemmas
 pub mod RefusalLemmas
 pub mod KernelLemmas
+pub mod Untold
 pub mod Names
 pub mod NameLemmas
 pub mod Worked

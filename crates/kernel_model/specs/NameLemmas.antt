@@ -15,9 +15,10 @@ use Rattle.cpuset_tree.specs.TreeLaws.{StandsAs, GroupAdded}
 use Rattle.cpuset_tree.specs.TreeLemmas.{same_is_equal, stands_itself, added_leaves, removed_leaves, writes_leave_places}
 use Rattle.kernel_model.specs.declared.fault.KernelFault.{KernelFault}
 use Rattle.kernel_model.specs.declared.call.Call.TheVariants.{MakeGroup, RemoveGroup, WriteCpus, WriteMems, Spawn, EndGroup, Root, FindGroup, RequestedCpus, EffectiveCpus, RequestedMems, EffectiveMems, Online, Nodes, FirstAlive, Fork, Exit, Offline, OnlineCpu}
-use Rattle.kernel_model.specs.KernelState.{KernelState, counted}
+use Rattle.kernel_model.specs.KernelState.{KernelState}
 use Rattle.kernel_model.specs.Refusals.{make_refusal, remove_refusal, write_refusal}
-use Rattle.kernel_model.specs.Cases.{MakesGroup, MakesGroupOf, RemovesGroup, WritesCpus, WritesMems}
+use Rattle.kernel_model.specs.Trace.{MadeGroup, RemovedGroup, WroteCpus, WroteMems}
+use Rattle.kernel_model.specs.Cases.{MakesGroup, MakesGroupOf, RemovesGroup, RemovesGroupOf, WritesCpus, WritesCpusOf, WritesMems, WritesMemsOf}
 use Rattle.kernel_model.specs.CaseLemmas.{Writes-keeps, GrowingWrites-keeps}
 use Rattle.kernel_model.specs.RefusalLemmas.{calls_are_free}
 use Rattle.kernel_model.specs.KernelLemmas.{writes_keep_tree, events_keep_groups}
@@ -94,27 +95,27 @@ module _ (old : KernelState) (own : Own old) where
       GrowingWrites-keeps Own (make_refusal old parent name) (MakesGroupOf old parent name) old
       (λ g new none does. names_added old.tree new.tree parent name g (added_leaves old.tree new.tree parent name g does.does)
       (((calls_are_free old).make parent name).0 none).1 own)
-      own own
+      (λ _. own) (λ _. own) (MadeGroup parent name)
 
   pub RemovesGroup-names : (g : Group) (r : Result (Unit {0}) KernelFault) (new : KernelState) → RemovesGroup old g r new → Own new
   RemovesGroup-names g =
-      Writes-keeps Own (remove_refusal old g) (λ _ new. new ≡ record (counted old) { tree = without_group old.tree g }) old
+      Writes-keeps Own (remove_refusal old g) (RemovesGroupOf old g) old
       (λ _ new none does. subst (λ (k : KernelState). Own k) (sym does) (stand_alike old.tree (without_group old.tree g) (still_there old.tree g) own))
-      own own
+      (λ _. own) (λ _. own) (RemovedGroup g)
 
   pub WritesCpus-names : (g : Group) (cpus : Ids) (r : Result (Unit {0}) KernelFault) (new : KernelState) → WritesCpus old g cpus r new → Own new
   WritesCpus-names g cpus =
-      Writes-keeps Own (write_refusal old g) (λ _ new. new ≡ record (counted old) { tree = with_cpus old.tree g cpus }) old
+      Writes-keeps Own (write_refusal old g) (WritesCpusOf old g cpus) old
       (λ _ new none does. subst (λ (k : KernelState). Own k) (sym does)
       (stand_alike old.tree (with_cpus old.tree g cpus) (writes_leave_places.0 old.tree g cpus).before own))
-      own own
+      (λ _. own) (λ _. own) (WroteCpus g cpus)
 
   pub WritesMems-names : (g : Group) (mems : Ids) (r : Result (Unit {0}) KernelFault) (new : KernelState) → WritesMems old g mems r new → Own new
   WritesMems-names g mems =
-      Writes-keeps Own (write_refusal old g) (λ _ new. new ≡ record (counted old) { tree = with_mems old.tree g mems }) old
+      Writes-keeps Own (write_refusal old g) (WritesMemsOf old g mems) old
       (λ _ new none does. subst (λ (k : KernelState). Own k) (sym does)
       (stand_alike old.tree (with_mems old.tree g mems) (writes_leave_places.1 old.tree g mems).before own))
-      own own
+      (λ _. own) (λ _. own) (WroteMems g mems)
 
   same_tree : (new : KernelState) → new.tree ≡ old.tree → Own new
   same_tree new is = subst (λ (t : TreeState). HaveOwnNames t.groups) (sym is) own

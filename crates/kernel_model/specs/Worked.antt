@@ -31,5 +31,5 @@ small =
       present = set.from_list (0 ∷ 1 ∷ 2 ∷ 3 ∷ 4 ∷ []);
       reserved = set.from_list (0 ∷ []);
       failures = 0;
-      writes = 0;
+      trace = [];
     }

@@ -21,11 +21,11 @@ use faults::OrMemory;
 ///
 /// Its meaning is a plain value: the groups with their parents, names and requested sets, the present, reserved and
 /// online CPUs, the memory nodes, the live processes with their groups and first processes, the next pid and the next
-/// serial, how many writes failed, and how many were made. Each call is one case of it.
+/// serial, how many writes failed, and the list of the writing calls that were made. Each call is one case of it.
 ///
-/// Each of the calls from `make_group` to `end_group` is a write: it is counted, whatever it returns, and may return
-/// [`KernelFault::Failed`] in place of anything else, which is counted as a failure too and changes nothing else. No
-/// other call is counted.
+/// Each of the calls from `make_group` to `end_group` is a write: it is told in the list with what it returns, and may
+/// return [`KernelFault::Failed`] in place of anything else, which is counted as a failure and changes nothing else. No
+/// other call is told.
 pub trait Kernel {
     ghost state: { Self → KernelState };
 

@@ -7,17 +7,18 @@ ghost use Rattle.cpuset_tree.specs.Effective.{effective_cpus};
 ghost use Rattle.cpuset_tree.specs.Groups.{requested_cpus};
 ghost use Rattle.kernel_model.specs.Cases.{WritesCpus};
 ghost use Rattle.kernel_model.specs.Laws.{EventsKeepGroups, WritesKeepProcesses, WritesKeepTree, WritesLeaveGroups};
-ghost use Rattle.kernel_model.specs.Laws.{CallsLeaveProcesses, WritesCount, CountsEachWrite, CallsAreFree};
+ghost use Rattle.kernel_model.specs.Laws.{CallsLeaveProcesses, WritesCount, TellsEachWrite, CountsEachWrite, CallsAreFree};
 ghost use Rattle.kernel_model.specs.Laws.{RefusalsHaveCauses};
 ghost use Rattle.kernel_model.specs.Laws.{EachCaseKeeps, StepsKeep, RunsKeep, EmptyWhereNoGroup, FirstIsWellFormed};
-ghost use Rattle.kernel_model.specs.KernelState.{KernelState};
+ghost use Rattle.kernel_model.specs.KernelState.{KernelState, writes};
+ghost use Rattle.kernel_model.specs.Trace.{WroteCpus};
 ghost use Rattle.kernel_model.specs.Refusals.{fork_refusal, offline_refusal, remove_refusal, write_refusal};
 ghost use Rattle.kernel_model.specs.Worked.{all_containers, numbered, root, small, web};
 ghost use Rattle.kernel_model.specs.Names.{FirstHasOwnNames, StepsKeepNames, RunsKeepNames};
 
 use crate::{KernelFault, LAST_PID};
 
-/// What each call leaves of groups and processes, and that each write is counted, whatever it returns.
+/// What each call leaves of groups and processes, and that each write is told with what it returns.
 pub fn cases()
     ensures events { EventsKeepGroups }
     ensures writes { WritesKeepProcesses }
@@ -25,6 +26,7 @@ pub fn cases()
     ensures groups { WritesLeaveGroups }
     ensures processes { CallsLeaveProcesses }
     ensures count { WritesCount }
+    ensures told { TellsEachWrite }
     ensures each { CountsEachWrite }
 {}
 
@@ -58,9 +60,11 @@ pub fn worked()
     ensures none_online { (new : KernelState) → WritesCpus small web (set.from_list (4 ∷ [])) (Ok tt) new
         → effective_cpus new.tree web ≡ set.from_list (0 ∷ 1 ∷ 2 ∷ 3 ∷ []) }
     ensures counted { (cpus : Ids) (new : KernelState) → WritesCpus small web cpus (Ok tt) new
-        → (requested_cpus new.tree web ≡ cpus) × (new.writes ≡ 1) × (new.failures ≡ 0) }
+        → (requested_cpus new.tree web ≡ cpus) × (writes new ≡ 1) × (new.failures ≡ 0) }
     ensures failed { (cpus : Ids) (new : KernelState) → WritesCpus small web cpus (Err KernelFault.Failed) new
-        → (new.tree ≡ small.tree) × (new.writes ≡ 1) × (new.failures ≡ 1) }
+        → (new.tree ≡ small.tree) × (writes new ≡ 1) × (new.failures ≡ 1) }
+    ensures told { (new : KernelState) → WritesCpus small web (set.from_list (1 ∷ [])) (Err KernelFault.Failed) new
+        → new.trace ≡ WroteCpus web (set.from_list (1 ∷ [])) (Err KernelFault.Failed) ∷ [] }
     ensures root_written { write_refusal small root ≡ Some KernelFault.IsRoot }
     ensures not_there { write_refusal small (numbered 3) ≡ Some KernelFault.NoGroup }
     ensures has_children { remove_refusal small all_containers ≡ Some KernelFault.HasChildren }

@@ -5,12 +5,12 @@ ghost use Rattle.cpu_set.specs.Members.{IsCpu};
 ghost use Rattle.proctable.specs.declared.TheConstants.{LAST_PID};
 ghost use Rattle.cpuset_tree.specs.Places.{place_of, place_behind};
 ghost use Rattle.kernel_model.specs.KernelState.{IsFirstKernel};
-ghost use Rattle.kernel_model.specs.Cases.{MakesGroup, RemovesGroup, WritesCpus, WritesMems, EndsGroup};
+ghost use Rattle.kernel_model.specs.Cases.{MakesGroup, RemovesGroup, WritesCpus, WritesMems, Spawns, EndsGroup};
+ghost use Rattle.kernel_model.specs.Untold.{MakesIn, RemovesIn, WritesCpusIn, WritesMemsIn, SpawnsAt, EndsIn};
 ghost use Rattle.kernel_model.specs.Refusals.{remove_refusal};
 
-use crate::count::WriteCount;
 use crate::fault::{of_proc, of_tree};
-use crate::{Kernel, KernelFault};
+use crate::{CallMade, Kernel, KernelFault, Trace};
 use cpu_set::{CPU_LIMIT, IdSet};
 use cpuset_tree::{Group, Tree};
 use faults::OrMemory;
@@ -25,10 +25,11 @@ pub struct ModelKernel {
     table: ProcTable,
     present: IdSet,
     reserved: IdSet,
-    writes: WriteCount,
+    trace: Trace,
 }
 
 impl Model for ModelKernel {
+    ghost use Rattle.std.specs.Prelude.{[]};
     ghost use Rattle.kernel_model.specs.KernelState.{KernelState, kernel_code};
 
     ghost Value = { KernelState };
@@ -43,7 +44,7 @@ impl Model for ModelKernel {
       present = k.present;
       reserved = k.reserved;
       failures = 0;
-      writes = k.writes.writes;
+      trace = k.trace.calls;
     } };
 
     ghost invariant = { λ k. IsWellFormed (record {
@@ -52,7 +53,7 @@ impl Model for ModelKernel {
       present = k.present;
       reserved = k.reserved;
       failures = 0;
-      writes = 0;
+      trace = [];
     }) };
 }
 
@@ -81,7 +82,7 @@ impl ModelKernel {
             table: ProcTable::new(alloc, first_pid),
             present,
             reserved,
-            writes: WriteCount::none(),
+            trace: Trace::none(),
         })
     }
 
@@ -113,6 +114,59 @@ impl ModelKernel {
     {
         let _ = &self.tree;
     }
+
+    /// Makes a group in the tree.
+    fn make_group_body(&mut self, parent: Group, name: &str) -> Result<Group, OrMemory<KernelFault>>
+        ensures { MakesIn self.old parent name.now result self.new }
+    {
+        self.tree.make(parent, name).map_err(of_tree)
+    }
+
+    /// Removes a group of no processes from the tree.
+    fn remove_group_body(&mut self, group: Group) -> Result<(), KernelFault>
+        ensures { RemovesIn self.old group result self.new }
+    {
+        if self.table.count_in(group) > 0 {
+            self.tree.removable(group)?;
+            return Err(KernelFault::HasProcesses);
+        }
+        Ok(self.tree.remove(group)?)
+    }
+
+    /// Writes the CPUs that a group requests in the tree.
+    fn write_cpus_body(&mut self, group: Group, cpus: IdSet) -> Result<(), KernelFault>
+        ensures { WritesCpusIn self.old group cpus result self.new }
+    {
+        Ok(self.tree.write_cpus(group, cpus)?)
+    }
+
+    /// Writes the memory nodes that a group requests in the tree.
+    fn write_mems_body(&mut self, group: Group, mems: IdSet) -> Result<(), KernelFault>
+        ensures { WritesMemsIn self.old group mems result self.new }
+    {
+        Ok(self.tree.write_mems(group, mems)?)
+    }
+
+    /// Makes a first process in the table, in a group that is there.
+    fn spawn_body(&mut self, group: Group) -> Result<u32, OrMemory<KernelFault>>
+        ensures { SpawnsAt self.old group result self.new }
+    {
+        if !self.tree.contains(group) {
+            return Err(OrMemory::Fault(KernelFault::NoGroup));
+        }
+        self.table.spawn(group).map_err(of_proc)
+    }
+
+    /// Ends all processes of a group that is there.
+    fn end_group_body(&mut self, group: Group) -> Result<(), KernelFault>
+        ensures { EndsIn self.old group result self.new }
+    {
+        if !self.tree.contains(group) {
+            return Err(KernelFault::NoGroup);
+        }
+        self.table.end_in(group);
+        Ok(())
+    }
 }
 
 /// The number as one of a present CPU, if it is that.
@@ -134,56 +188,54 @@ impl Kernel for ModelKernel {
         ensures case { MakesGroup self.old parent name.now result self.new }
         ensures never_fails { self.new.failures ≡ 0 }
     {
-        self.writes = self.writes.one_more();
-        self.tree.make(parent, name).map_err(of_tree)
+        let answer = self.make_group_body(parent, name);
+        self.trace = self.trace.then(&CallMade::Group(parent, name, answer));
+        answer
     }
 
     fn remove_group(&mut self, group: Group) -> Result<(), KernelFault>
         ensures case { RemovesGroup self.old group result self.new }
         ensures never_fails { self.new.failures ≡ 0 }
     {
-        self.writes = self.writes.one_more();
-        if self.table.count_in(group) > 0 {
-            self.tree.removable(group)?;
-            return Err(KernelFault::HasProcesses);
-        }
-        Ok(self.tree.remove(group)?)
+        let answer = self.remove_group_body(group);
+        self.trace = self.trace.then(&CallMade::Removal(group, answer));
+        answer
     }
 
     fn write_cpus(&mut self, group: Group, cpus: IdSet) -> Result<(), KernelFault>
         ensures case { WritesCpus self.old group cpus result self.new }
         ensures never_fails { self.new.failures ≡ 0 }
     {
-        self.writes = self.writes.one_more();
-        Ok(self.tree.write_cpus(group, cpus)?)
+        let answer = self.write_cpus_body(group, cpus);
+        self.trace = self.trace.then(&CallMade::Cpus(group, &cpus, answer));
+        answer
     }
 
     fn write_mems(&mut self, group: Group, mems: IdSet) -> Result<(), KernelFault>
         ensures case { WritesMems self.old group mems result self.new }
         ensures never_fails { self.new.failures ≡ 0 }
     {
-        self.writes = self.writes.one_more();
-        Ok(self.tree.write_mems(group, mems)?)
+        let answer = self.write_mems_body(group, mems);
+        self.trace = self.trace.then(&CallMade::Mems(group, &mems, answer));
+        answer
     }
 
-    fn spawn(&mut self, group: Group) -> Result<u32, OrMemory<KernelFault>> {
-        self.writes = self.writes.one_more();
-        if !self.tree.contains(group) {
-            return Err(OrMemory::Fault(KernelFault::NoGroup));
-        }
-        self.table.spawn(group).map_err(of_proc)
+    fn spawn(&mut self, group: Group) -> Result<u32, OrMemory<KernelFault>>
+        ensures case { Spawns self.old group result self.new }
+        ensures never_fails { self.new.failures ≡ 0 }
+    {
+        let answer = self.spawn_body(group);
+        self.trace = self.trace.then(&CallMade::Process(group, answer));
+        answer
     }
 
     fn end_group(&mut self, group: Group) -> Result<(), KernelFault>
         ensures case { EndsGroup self.old group result self.new }
         ensures never_fails { self.new.failures ≡ 0 }
     {
-        self.writes = self.writes.one_more();
-        if !self.tree.contains(group) {
-            return Err(KernelFault::NoGroup);
-        }
-        self.table.end_in(group);
-        Ok(())
+        let answer = self.end_group_body(group);
+        self.trace = self.trace.then(&CallMade::End(group, answer));
+        answer
     }
 
     fn root(&self) -> Group {

@@ -1,13 +1,14 @@
 use Rattle.std.proofs.Common.{ap, arith}
 use Rattle.std.specs.Prelude.{string_bytes}
-use Rattle.cgroup_tree.specs.Events.{WroteCpus}
+use Rattle.kernel_model.specs.Trace.{WroteCpus}
+use Rattle.cgroup_tree.specs.Events.{Wrote}
 use Rattle.cgroup_tree.specs.MirroredLemmas.{goes_on, grown_looks, well_at}
 use Rattle.cgroup_tree.specs.RoomLemmas.{goes_on_in_room}
 use Rattle.cgroup_tree.proofs.mirrored_kernel.MirroredKernelKernel.write_cpus.Goals as goal
 
 pub invariant_of-self : goal.invariant_of-self
 invariant_of-self g c =
-    let event = WroteCpus c.args.group c.args.cpus c.write_cpus.result in
+    let event = Wrote (WroteCpus c.args.group c.args.cpus c.write_cpus.result) in
     let was = c.self.invariant in (
       goes_on g.F.GroupFiles.asked g.S.Sited.site _ _ _ _ _ _ _ _ _ _ event was.0 (ap string_bytes c.write_cpus.ensures.same.0, c.write_cpus.ensures.same.1, c.write_cpus.ensures.same.2) c.write_cpus.ensures.case
           (grown_looks g.F.GroupFiles.asked _ _ _ _ _ c.write_cpus.ensures.asks),

@@ -1,4 +1,4 @@
-use Rattle.std.proofs.Common.{ℕ, refl, sym, ap, subst}
+use Rattle.std.proofs.Common.{[], ℕ, refl, sym, ap, subst}
 use Rattle.std.specs.Prelude.{Result, Ok, Err, option_map}
 use Rattle.faults.specs.declared.or_memory.OrMemory.{OrMemory}
 use Rattle.faults.specs.declared.or_memory.OrMemory.TheVariants.{Memory, Fault}
@@ -22,5 +22,5 @@ module _ (old : KernelState) (well_formed : IsWellFormed old) (parent : ℕ) (ne
 pub invariant_of-self : goal.invariant_of-self
 invariant_of-self c =
     let i = c.self.inside in
-    let old : KernelState = record { tree = i.tree; table = i.table; present = i.present; reserved = i.reserved; failures = 0; writes = 0 } in
+    let old : KernelState = record { tree = i.tree; table = i.table; present = i.present; reserved = i.reserved; failures = 0; trace = [] } in
     forked old c.self.invariant c.args.parent c.fork.new.self c.fork.result c.fork.ensures

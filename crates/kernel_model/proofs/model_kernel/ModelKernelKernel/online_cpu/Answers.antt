@@ -1,4 +1,4 @@
-use Rattle.std.proofs.Common.{ap, ◌∙◌}
+use Rattle.std.proofs.Common.{[], ap, ◌∙◌}
 use Rattle.std.specs.Prelude.{Ok}
 use Rattle.std.specs.FinSet as set
 use Rattle.cpu_set.specs.Ids.{Ids}
@@ -12,7 +12,7 @@ use Rattle.kernel_model.proofs.model_kernel.ModelKernelKernel.online_cpu.Goals a
 pub invariant_of-self : goal.invariant_of-self
 invariant_of-self c =
     let i = c.self.inside in
-    let old : KernelState = record { tree = i.tree; table = i.table; present = i.present; reserved = i.reserved; failures = 0; writes = 0 } in
+    let old : KernelState = record { tree = i.tree; table = i.table; present = i.present; reserved = i.reserved; failures = 0; trace = [] } in
     let cpu = c.in-Some.cpu in
     ((each_case_keeps old (record old { tree = c.set_online.new.self }) c.self.invariant).online cpu (Ok tt) (
       ((calls_are_free old).online cpu).1 c.in-Some.ensures.1,

@@ -1,4 +1,4 @@
--- `none` picks 0. Assumes `Logic`.
+-- `none` picks the empty list. Assumes `Logic`.
 use Rattle.std.proofs.Common.{[], ◌∷◌, refl}
 use seplogic.Ra.Ura.{Ura}
 use mir.Syntax.{Fn}
@@ -24,11 +24,11 @@ use denote.Triple.Spec.{Meets, triple_of}
 use denote.Triple.Table.{entered}
 use denote.Triple.Walked.{says, Stays, walk_of, ends_at, walk_Meets}
 use Rattle.kernel_model.proofs.Walks.{none, none_made}
-use Rattle.kernel_model.specs.contracts.count.WriteCount as WriteCount
-use Rattle.kernel_model.specs.contracts.count.WriteCount.none as F
-use Rattle.kernel_model.specs.contracts.count.WriteCount.none.Key.{name as #self}
-use Rattle.kernel_model.proofs.count.WriteCount.none.Statement as stated
-use Rattle.kernel_model.proofs.count.WriteCount.none.Code as code
+use Rattle.kernel_model.specs.contracts.trace.Trace as Trace
+use Rattle.kernel_model.specs.contracts.trace.Trace.none as F
+use Rattle.kernel_model.specs.contracts.trace.Trace.none.Key.{name as #self}
+use Rattle.kernel_model.proofs.trace.Trace.none.Statement as stated
+use Rattle.kernel_model.proofs.trace.Trace.none.Code as code
 
 abbrev function : Fn
 function = code.function
@@ -56,7 +56,7 @@ module _ {M : Type 1} {𝓤 : Ura M} (𝓛 : Logic 𝓤) (at_mem : Memory → SP
     walks =
         let a = z.0.3 in
         let vss = z.0.4 in
-        let made : (WriteCount.the_row).Denot = record { writes = 0 } in
+        let made : (Trace.the_row).Denot = record { calls = [] } in
         qed 𝓛 ((raw toks ⊛ ‵ (owns (types_at ended.signature.params z.0.0) a vss)) ∷ raw ((held z.0.0 a).requires z.1) ∷ []) ∵
         keep ! (0 ∷ []) $ split ! $ move ! (1 ∷ []) $ drop ! $
         enter ! C Λ function [] Post $ alloc_all ! (λ l. pass_all ! refl tt $
