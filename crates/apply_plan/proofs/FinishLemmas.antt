@@ -5,14 +5,14 @@ use Rattle.std.proofs.lemmas.List.{take_all}
 use Rattle.std.specs.Prelude.{find, Option, Some, None, is_some, Result, Ok, Err, IsOk}
 use Rattle.kernel_model.specs.declared.fault.KernelFault.{KernelFault}
 use Rattle.kernel_model.specs.declared.fault.KernelFault.TheVariants.{Failed}
-use Rattle.kernel_model.specs.KernelState.{KernelState, failed}
+use Rattle.kernel_model.specs.KernelState.{KernelState, writes}
 use Rattle.kernel_model.specs.Cases.{rise}
 use Rattle.apply_plan.specs.declared.scan.Write.{Write}
 use Rattle.apply_plan.specs.declared.handover.Progress.{Progress}
 use Rattle.apply_plan.specs.declared.handover.Progress.TheVariants.{More, Done}
 use Rattle.apply_plan.specs.Holders.{IsSafe}
 use Rattle.apply_plan.specs.Targets.{Targets, holders_of, IsHandover, ArePlaced}
-use Rattle.apply_plan.specs.DueWrite.{must_release, must_move, first_write, due, written, progress_of, Steps, HaveTargets, Between, writes_to_come, Spends}
+use Rattle.apply_plan.specs.DueWrite.{must_release, must_move, first_write, due, written, missed, progress_of, Steps, HaveTargets, Between, writes_to_come, Spends}
 use Rattle.apply_plan.specs.Leaves.{KeepsRest}
 use Rattle.apply_plan.specs.LeavesLemmas.{rest_then}
 use Rattle.apply_plan.specs.Finishes.{StepsMore, last_answer, Finishes}
@@ -62,16 +62,16 @@ module _ (h : Targets) where
   due_first zero old mid same some = ap (λ k. is_some (due h k)) (sym same) ∙ some
   due_first (suc n) old mid (first, later) some = first
 
-  fails_at : (n : ℕ) (old mid : KernelState) → Writes h n old mid → is_some (due h mid) ≡ true → Finishes h old (Err Failed) (failed mid)
+  fails_at : (n : ℕ) (old mid : KernelState) → Writes h n old mid → is_some (due h mid) ≡ true → Finishes h old (Err Failed) (missed (due h mid) mid)
   fails_at zero old mid same some = record {
     steps = 0;
     mid = old;
     more = refl;
-    ends = (refl, ap failed same, ap (λ k. is_some (due h k)) (sym same) ∙ some);
+    ends = (refl, ap (λ k. missed (due h k) k) same, ap (λ k. is_some (due h k)) (sym same) ∙ some);
   }
   fails_at (suc n) old mid (first, later) some =
       let next = written old (due h old) in
-      one_before old next (failed mid) (Err Failed) (steps_more old (due_first n next mid later some)) (fails_at n next mid later some)
+      one_before old next (missed (due h mid) mid) (Err Failed) (steps_more old (due_first n next mid later some)) (fails_at n next mid later some)
 
   pub stopped : (old new : KernelState) (fault : KernelFault) → Stops h old fault new → Finishes h old (Err fault) new
   stopped old new fault s =
@@ -146,7 +146,7 @@ module _ (h : Targets) (valid : IsHandover h) where
         let last : Spends h f.mid (rise (last_answer r)) new = step_spends h valid f.mid new placed_then (last_answer r) f.ends in
         omega (arith, more, last, same_rise r)
 
-    pub finish_few : new.writes ≤ old.writes + 2 * length h.entries + rise r
+    pub finish_few : writes new ≤ writes old + 2 * length h.entries + rise r
     finish_few = omega (arith, finish_spends, at_most_two h old)
 
 -- at the end each live container has its target
@@ -158,7 +158,7 @@ finish_done h valid old new placed (Err fault) f ok = absurd (false≢true ok)
 
 -- and each write that was to come was made
 pub finish_all : (h : Targets) (valid : IsHandover h) (old new : KernelState) → ArePlaced old h.entries → (r : Result (Unit {0}) KernelFault) → Finishes h old r new → IsOk r
-    → new.writes ≡ old.writes + writes_to_come h old
+    → writes new ≡ writes old + writes_to_come h old
 finish_all h valid old new placed (Ok v) f ok =
     let none : writes_to_come h new ≡ 0 = done_none h f.mid new (Ok Done) f.ends refl in
     let spends : Spends h old 0 new = finish_spends h valid old new placed (Ok v) f in

@@ -13,7 +13,7 @@ use Rattle.apply_plan.specs.declared.entry.Entry.{Entry}
 use Rattle.apply_plan.specs.declared.scan.Write.{Write}
 use Rattle.apply_plan.specs.Kept.{kept}
 use Rattle.apply_plan.specs.Targets.{Targets, IsHandover, IsPlaced, ArePlaced}
-use Rattle.apply_plan.specs.DueWrite.{held, kept_of, must_release, must_move, release_of, move_of, first_write, due, written}
+use Rattle.apply_plan.specs.DueWrite.{held, kept_of, must_release, must_move, release_of, move_of, first_write, due, written, missed}
 use Rattle.apply_plan.specs.KeptLemmas.{kept_target, kept_again}
 use Rattle.apply_plan.specs.Walks.{its_release, its_move, IsMadeIfAny, Writes, HasWritten, Stops, NoneMust, HaveReleased, HaveMoved}
 use Rattle.apply_plan.specs.ListLemmas.{all_behind, all_map2, find_among}
@@ -162,16 +162,22 @@ module _ (h : Targets) (valid : IsHandover h) (first old : KernelState) (entries
           keep = none_more (must_release old h.reserved) was.keep need_not;
         }))
 
+    release_is_due : must_release old h.reserved e ≡ true → due h old ≡ Some (release_of old h.reserved e)
+    release_is_due must =
+        ap (λ o. first_write old h.reserved o (find (must_move old) h.entries)) (found_here (must_release old h.reserved) was.keep must)
+
     pub release_stops : (fault : KernelFault) (new : KernelState) → IsMadeIfAny (its_release old h.reserved e) old (Err fault) new → Stops h first fault new
     release_stops fault new is = record {
       mid = old;
       made = was.made;
-      wanted = by_test (must_release old h.reserved e)
-          (λ must. ap (λ o. is_some (first_write old h.reserved o (find (must_move old) h.entries))) (found_here (must_release old h.reserved) was.keep must))
-          (λ need_not. absurd (false≢true (sym (ap (λ b. is_some (cond b (Some (release_of old h.reserved e)) None)) need_not) ∙ is.2)));
+      wanted = by_test (must_release old h.reserved e) (λ must. ap is_some (release_is_due must)) (λ need_not. absurd (made_none need_not));
       fault = is.0;
-      is = is.1;
-    }
+      is = by_test (must_release old h.reserved e)
+          (λ must. is.1 ∙ ap (λ b. missed (cond b (Some (release_of old h.reserved e)) None) old) must ∙ ap (λ d. missed d old) (sym (release_is_due must)))
+          (λ need_not. absurd (made_none need_not));
+    } where
+      made_none : must_release old h.reserved e ≡ false → ⊥
+      made_none need_not = false≢true (sym (ap (λ b. is_some (cond b (Some (release_of old h.reserved e)) None)) need_not) ∙ is.2)
 
   module _ (was : HaveMoved h i first old) where
     nothing_released : find (must_release old h.reserved) h.entries ≡ None
@@ -213,9 +219,12 @@ module _ (h : Targets) (valid : IsHandover h) (first old : KernelState) (entries
     move_stops fault new is = record {
       mid = old;
       made = was.made;
-      wanted = by_test (must_move old e)
-          (λ must. ap is_some (move_is_due (found_here (must_move old) was.hold must)))
-          (λ need_not. absurd (false≢true (sym (ap (λ b. is_some (cond b (Some (move_of e)) None)) need_not) ∙ is.2)));
+      wanted = by_test (must_move old e) (λ must. ap is_some (move_is_due (found_here (must_move old) was.hold must))) (λ need_not. absurd (made_none need_not));
       fault = is.0;
-      is = is.1;
-    }
+      is = by_test (must_move old e)
+          (λ must. is.1 ∙ ap (λ b. missed (cond b (Some (move_of e)) None) old) must
+          ∙ ap (λ d. missed d old) (sym (move_is_due (found_here (must_move old) was.hold must))))
+          (λ need_not. absurd (made_none need_not));
+    } where
+      made_none : must_move old e ≡ false → ⊥
+      made_none need_not = false≢true (sym (ap (λ b. is_some (cond b (Some (move_of e)) None)) need_not) ∙ is.2)

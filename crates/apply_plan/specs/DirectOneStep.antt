@@ -1,7 +1,7 @@
 -- What one step of a direct hand-over leaves, of plain states.
 use Rattle.std.specs.Prelude.{◌≡◌, ℕ, ◌+◌, ◌≤◌, Result, Ok}
 use Rattle.kernel_model.specs.declared.KernelFault.{KernelFault}
-use Rattle.kernel_model.specs.KernelState.{KernelState}
+use Rattle.kernel_model.specs.KernelState.{KernelState, writes}
 use Rattle.kernel_model.specs.Cases.{rise}
 use Rattle.kernel_model.specs.Laws.{StepKeeps}
 use Rattle.apply_plan.specs.declared.handover.Progress.{Progress}
@@ -19,7 +19,7 @@ use Rattle.apply_plan.specs.Squeezes.{SqueezesOnlyStuck}
 
 -- the kernel was written at most once for each write that fewer are left, and once for each that failed
 abbrev pub SpendsDirectly : Directed → KernelState → ℕ → KernelState → Type 0
-SpendsDirectly d old failures new = new.writes + left_directly d.targets new ≤ old.writes + left_directly d.targets old + failures
+SpendsDirectly d old failures new = writes new + left_directly d.targets new ≤ writes old + left_directly d.targets old + failures
 
 -- what one step leaves. The hand-over is still open, what was safe is safe, and nothing changed but the entries' sets and the
 -- kernel's counts. If no write is due any more each live container has its target; if one still is, one less is left or fewer.
@@ -35,7 +35,7 @@ pub record StepLeavesDirectly (d : Directed) (least : Least) (old : KernelState)
   pub on_way : (first : KernelState) → AreOnWay d first old → AreOnWay d first new
   pub squeezes : SqueezesOnlyStuck d least old new
   pub counted : new.failures ≡ old.failures + rise r
-  pub made : new.writes ≡ old.writes + made_directly d least old
+  pub made : writes new ≡ writes old + made_directly d least old
   pub spends : SpendsDirectly d old (rise r) new
   pub kernel : StepKeeps old new
 

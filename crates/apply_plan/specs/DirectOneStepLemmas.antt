@@ -1,21 +1,19 @@
 -- What a step of a direct hand-over leaves while it is open.
-use Rattle.std.proofs.Common.{◌≡◌, ◌+◌, ◌<◌, ◌≤◌, refl, sym, ap, ◌∙◌, subst, arith, []}
+use Rattle.std.proofs.Common.{◌≡◌, ◌+◌, ◌<◌, ◌≤◌, refl, sym, ap, ◌∙◌, subst, arith, [], ◌++◌}
 use Rattle.std.specs.Prelude.{cond, Option, Some, None, is_some, IfSome, Result, Ok, Err}
-use Rattle.std.specs.FinSet as set
-use Rattle.cpuset_tree.specs.declared.Group.{Group}
 use Rattle.kernel_model.specs.declared.KernelFault.{KernelFault}
 use Rattle.kernel_model.specs.declared.KernelFault.TheVariants.{Failed}
-use Rattle.kernel_model.specs.KernelState.{KernelState, failed}
+use Rattle.kernel_model.specs.KernelState.{KernelState, writes}
 use Rattle.kernel_model.specs.Cases.{rise}
 use Rattle.kernel_model.specs.Laws.{StepKeeps}
-use Rattle.kernel_model.specs.KernelLemmas.{each_case_keeps, runs_keep}
+use Rattle.kernel_model.specs.KernelLemmas.{each_case_keeps, keeps_itself, runs_keep, whatever_is_told}
 use Rattle.kernel_model.specs.RefusalLemmas.{calls_are_free}
 use Rattle.apply_plan.specs.declared.entry.Entry.{Entry}
 use Rattle.apply_plan.specs.declared.scan.Write.{Write}
 use Rattle.apply_plan.specs.declared.handover.Progress.{Progress}
 use Rattle.apply_plan.specs.declared.handover.Progress.TheVariants.{More, Done}
 use Rattle.apply_plan.specs.Targets.{IsPlaced}
-use Rattle.apply_plan.specs.DueWrite.{written, progress_of}
+use Rattle.apply_plan.specs.DueWrite.{written, asks_for, progress_of}
 use Rattle.apply_plan.specs.KernelFactLemmas.{placed_alike}
 use Rattle.apply_plan.specs.ListLemmas.{all_map}
 use Rattle.apply_plan.specs.Runs.{IsOpen}
@@ -33,13 +31,10 @@ module _ (d : Directed) (least : Least) (serves : Serves d least) (old new : Ker
       let there : IsPlaced old w.group = subst (λ o. IfSome o (λ v. IsPlaced old v.group)) is (due_places d before.handover least serves old before.placed) in
       (each_case_keeps old (written old (Some w)) before.well_formed).cpus w.group w.cpus (Ok tt) (((calls_are_free old).write w.group).1 (there.there, there.below), refl)
 
-  any_group : Group
-  any_group = record { key = 0; serial = 0 }
-
   step_kernel : (r : Result Progress KernelFault) → StepsDirectly d least old r new → StepKeeps old new
   step_kernel (Ok answer) s = subst (StepKeeps old) (sym s.0) (due_kernel (due_directly d least old) refl)
   step_kernel (Err fault) s =
-      subst (StepKeeps old) (sym s.1) ((each_case_keeps old (failed old) before.well_formed).cpus any_group set.empty (Err Failed) refl)
+      subst (StepKeeps old) (sym s.1) (whatever_is_told old old (old.failures + 1) (asks_for (due_directly d least old) (Err Failed) ++ old.trace) (keeps_itself old before.well_formed))
 
   step_stays_open : (r : Result Progress KernelFault) → StepsDirectly d least old r new → IsOpen d.targets new
   step_stays_open r s =
@@ -71,11 +66,11 @@ module _ (d : Directed) (least : Least) (serves : Serves d least) (old new : Ker
   step_spends (Ok answer) s =
       let a : left_directly d.targets new + cond (is_some (due_directly d least old)) 1 0 ≤ left_directly d.targets old =
       step_lowers d before.handover least serves old new before.placed (Ok answer) s in
-      let b : new.writes ≡ old.writes + made_directly d least old = step_makes d before.handover least serves old new before.placed (Ok answer) s in
+      let b : writes new ≡ writes old + made_directly d least old = step_makes d before.handover least serves old new before.placed (Ok answer) s in
       omega (arith, a, b)
   step_spends (Err fault) s =
       let a : left_directly d.targets new ≡ left_directly d.targets old = step_lowers d before.handover least serves old new before.placed (Err fault) s in
-      let b : new.writes ≡ old.writes + 1 = ap (λ k. k.writes) s.1 in
+      let b : writes new ≡ writes old + 1 = step_makes d before.handover least serves old new before.placed (Err fault) s ∙ ap (λ x. writes old + cond x 1 0) s.2 in
       let r : rise {A = Progress} (Err fault) ≡ 1 = ap (λ (f : KernelFault). rise {A = Progress} (Err f)) s.0 in
       omega (arith, a, b, r)
 

@@ -1,5 +1,5 @@
 -- What whole runs of a direct hand-over leave, whatever happens between its writes.
-use Rattle.std.proofs.Common.{◌≡◌, ◌+◌, ◌≤◌, Bool, true, false, not, ◌&&◌, List, [], ◌∷◌, refl, sym, ap, ◌∙◌, subst, arith, inl}
+use Rattle.std.proofs.Common.{◌≡◌, ◌+◌, ◌≤◌, Bool, true, false, not, ◌&&◌, List, [], ◌∷◌, ◌++◌, refl, sym, ap, ◌∙◌, subst, arith, inl}
 use Rattle.std.proofs.lemmas.Bool.{false≢true}
 use Rattle.std.specs.Prelude.{cond, find, Option, Some, None, is_some, Ok, Err}
 use Rattle.std.specs.List.{AllByRecursion}
@@ -7,19 +7,19 @@ use Rattle.std.specs.FinSet as set
 use Rattle.cpu_set.specs.Ids.{Ids, is_same}
 use Rattle.cpuset_tree.specs.Groups.{same_group, cpus_in}
 use Rattle.proctable.specs.Processes.{is_alive}
-use Rattle.kernel_model.specs.KernelState.{KernelState, failed}
+use Rattle.kernel_model.specs.KernelState.{KernelState, writes}
 use Rattle.kernel_model.specs.declared.KernelFault.{KernelFault}
 use Rattle.kernel_model.specs.declared.KernelFault.TheVariants.{Failed}
 use Rattle.kernel_model.specs.Cases.{rise}
 use Rattle.kernel_model.specs.Laws.{StepKeeps}
-use Rattle.kernel_model.specs.KernelLemmas.{each_case_keeps, itself_alike}
+use Rattle.kernel_model.specs.KernelLemmas.{each_case_keeps, itself_alike, keeps_itself, whatever_is_told}
 use Rattle.kernel_model.specs.RefusalLemmas.{calls_are_free}
 use Rattle.apply_plan.specs.declared.entry.Entry.{Entry}
 use Rattle.apply_plan.specs.declared.scan.Write.{Write}
 use Rattle.apply_plan.specs.declared.handover.Progress.{Progress}
 use Rattle.apply_plan.specs.Holders.{IsSafe}
 use Rattle.apply_plan.specs.Targets.{Targets, holders_of, IsPlaced}
-use Rattle.apply_plan.specs.DueWrite.{held, must_move, written}
+use Rattle.apply_plan.specs.DueWrite.{held, must_move, written, asks_for, missed}
 use Rattle.apply_plan.specs.ListLemmas.{all_map, all_map2, all_of, find_none, none_found, sum_le}
 use Rattle.apply_plan.specs.KernelFactLemmas.{placed_alike, stands}
 use Rattle.apply_plan.specs.WriteLemmas.{by_test}
@@ -106,27 +106,27 @@ module _ (d : Directed) (least : Least) (serves : Serves d least) (old new : Ker
   due_kernel None is = before
   due_kernel (Some w) is = made_kernel w (made_places d before.handover old before.placed w (makes d before.handover least serves old w (subst (Direct d least old) is (direct_is d least old))))
 
-  missed_kernel : IsOpen d.targets (failed old)
-  missed_kernel =
-      let kernel : StepKeeps old (failed old) = (each_case_keeps old (failed old) before.well_formed).cpus (record { key = 0; serial = 0 }) set.empty (Err Failed) refl in
+  pub missed_kernel : (o : Option Write) → IsOpen d.targets (missed o old)
+  missed_kernel o =
+      let kernel : StepKeeps old (missed o old) = whatever_is_told old old (old.failures + 1) (asks_for o (Err Failed) ++ old.trace) (keeps_itself old before.well_formed) in
       record {
         handover = before.handover;
         well_formed = kernel.well_formed;
-        placed = placed_alike old (failed old) d.targets.entries (itself_alike old.tree) before.placed;
+        placed = placed_alike old (missed o old) d.targets.entries (itself_alike old.tree) before.placed;
         given = before.given;
       }
 
   pub stays_open : (x : DirectEvent) → HappensDirectly d least old x new → IsOpen d.targets new
   stays_open (Stepped (Ok answer)) happens = subst (IsOpen d.targets) (sym happens.0) (due_kernel (due_directly d least old) refl)
-  stays_open (Stepped (Err fault)) happens = subst (IsOpen d.targets) (sym happens.1) missed_kernel
+  stays_open (Stepped (Err fault)) happens = subst (IsOpen d.targets) (sym happens.1) (missed_kernel (due_directly d least old))
   stays_open (Made w) happens = subst (IsOpen d.targets) (sym happens.1) (made_kernel w (made_places d before.handover old before.placed w happens.0))
-  stays_open Missed happens = subst (IsOpen d.targets) (sym happens) missed_kernel
+  stays_open (Missed w) happens = subst (IsOpen d.targets) (sym happens) (missed_kernel (Some w))
   stays_open (Called call r) happens = still_open d.targets old new before call r happens.0 happens.1
 
   pub event_safe : (x : DirectEvent) → HappensDirectly d least old x new → IsSafe old d.targets.reserved (holders_of d.targets.entries) → IsSafe new d.targets.reserved (holders_of d.targets.entries)
   event_safe (Stepped r) happens safe = step_safe d before.handover least serves old new before.placed r happens safe
   event_safe (Made w) happens safe = subst (λ k. IsSafe k d.targets.reserved (holders_of d.targets.entries)) (sym happens.1) (made_safe d before.handover old before.placed w happens.0 safe)
-  event_safe Missed happens safe = subst (λ k. IsSafe k d.targets.reserved (holders_of d.targets.entries)) (sym happens) (record { apart = safe.apart; some = safe.some })
+  event_safe (Missed w) happens safe = subst (λ k. IsSafe k d.targets.reserved (holders_of d.targets.entries)) (sym happens) (record { apart = safe.apart; some = safe.some })
   event_safe (Called call r) happens safe = calm_safe d.targets old new (calm d.targets old new before call r happens.0 happens.1) safe
 
   same_on_way : (first : KernelState) → AllByRecursion (λ a. held new a ≡ held old a) d.targets.entries → AreOnWay d first old → AreOnWay d first new
@@ -137,24 +137,24 @@ module _ (d : Directed) (least : Least) (serves : Serves d least) (old new : Ker
   pub event_on_way : (first : KernelState) (x : DirectEvent) → HappensDirectly d least old x new → AreOnWay d first old → AreOnWay d first new
   event_on_way first (Stepped r) happens all = step_on_way d before.handover least serves old new before.placed first r happens all
   event_on_way first (Made w) happens all = subst (AreOnWay d first) (sym happens.1) (made_on_way d before.handover old before.placed w happens.0 first all)
-  event_on_way first Missed happens all = same_on_way first (all_map _ (λ a. held new a ≡ held old a) (λ a _. ap (λ k. held k a) happens) d.targets.entries all) all
+  event_on_way first (Missed w) happens all = same_on_way first (all_map _ (λ a. held new a ≡ held old a) (λ a _. ap (λ k. held k a) happens) d.targets.entries all) all
   event_on_way first (Called call r) happens all =
       same_on_way first (all_map (IsCalm old new) (λ a. held new a ≡ held old a) (λ a c. ap cpus_in c.group) d.targets.entries (calm d.targets old new before call r happens.0 happens.1)) all
 
   pub event_lowers : (x : DirectEvent) → HappensDirectly d least old x new → direct_writes_of old x new + left_directly d.targets new ≤ left_directly d.targets old
   event_lowers (Stepped (Ok answer)) happens =
       let a : left_directly d.targets new + cond (is_some (due_directly d least old)) 1 0 ≤ left_directly d.targets old = step_lowers d before.handover least serves old new before.placed (Ok answer) happens in
-      let b : new.writes ≡ old.writes + made_directly d least old = step_makes d before.handover least serves old new before.placed (Ok answer) happens in
+      let b : writes new ≡ writes old + made_directly d least old = step_makes d before.handover least serves old new before.placed (Ok answer) happens in
       omega (arith, a, b)
   event_lowers (Stepped (Err fault)) happens =
       let a : left_directly d.targets new ≡ left_directly d.targets old = step_lowers d before.handover least serves old new before.placed (Err fault) happens in
-      let b : new.writes ≡ old.writes + 1 = ap (λ k. k.writes) happens.1 in
+      let b : writes new ≡ writes old + 1 = step_makes d before.handover least serves old new before.placed (Err fault) happens ∙ ap (λ x. writes old + cond x 1 0) happens.2 in
       let r : rise {A = Progress} (Err fault) ≡ 1 = ap (λ (f : KernelFault). rise {A = Progress} (Err f)) happens.0 in
       omega (arith, a, b, r)
   event_lowers (Made w) happens =
       let a : left_directly d.targets new + 1 ≤ left_directly d.targets old = subst (λ k. left_directly d.targets k + 1 ≤ left_directly d.targets old) (sym happens.1) (made_lowers d before.handover old before.placed w happens.0) in
       omega (arith, a)
-  event_lowers Missed happens = let a : left_directly d.targets new ≡ left_directly d.targets old = ap (left_directly d.targets) happens in omega (arith, a)
+  event_lowers (Missed w) happens = let a : left_directly d.targets new ≡ left_directly d.targets old = ap (left_directly d.targets) happens in omega (arith, a)
   event_lowers (Called call r) happens =
       let a : left_directly d.targets new ≤ left_directly d.targets old = calm_left d.targets old new (calm d.targets old new before call r happens.0 happens.1) in omega (arith, a)
 

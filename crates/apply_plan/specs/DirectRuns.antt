@@ -5,33 +5,33 @@ use Rattle.faults.specs.declared.OrMemory.{OrMemory}
 use Rattle.kernel_model.specs.declared.KernelFault.{KernelFault}
 use Rattle.kernel_model.specs.declared.Call.{Call}
 use Rattle.kernel_model.specs.declared.Reply.{Reply}
-use Rattle.kernel_model.specs.KernelState.{KernelState, failed}
+use Rattle.kernel_model.specs.KernelState.{KernelState, writes}
 use Rattle.kernel_model.specs.Cases.{rise}
 use Rattle.kernel_model.specs.Runs.{Step}
 use Rattle.apply_plan.specs.declared.handover.Progress.{Progress}
 use Rattle.apply_plan.specs.declared.scan.Write.{Write}
 use Rattle.apply_plan.specs.Holders.{IsSafe}
 use Rattle.apply_plan.specs.Targets.{holders_of}
-use Rattle.apply_plan.specs.DueWrite.{written}
+use Rattle.apply_plan.specs.DueWrite.{written, missed}
 use Rattle.apply_plan.specs.Runs.{IsOpen, LeavesEntries}
 use Rattle.apply_plan.specs.MayWrite.{left_directly}
 use Rattle.apply_plan.specs.Directed.{Directed, Least, Serves}
 use Rattle.apply_plan.specs.OnWay.{AreOnWay, Makes}
 use Rattle.apply_plan.specs.DirectWrite.{StepsDirectly}
 
--- a step of the hand-over with its answer; a write that may be made, whichever it is; one that fails; or a call of somebody else
+-- a step of the hand-over with its answer; a write that may be made, whichever it is; one that fails, whichever it is; or a call of somebody else
 -- with its reply
 pub data DirectEvent : Type 0 where
   Stepped : Result Progress KernelFault → DirectEvent
   Made : Write → DirectEvent
-  Missed : DirectEvent
+  Missed : Write → DirectEvent
   Called : Call → Result Reply (OrMemory KernelFault) → DirectEvent
 
 -- what an event leaves of the kernel
 abbrev pub HappensDirectly : Directed → Least → KernelState → DirectEvent → KernelState → Type 0
 HappensDirectly d least old (Stepped r) new = StepsDirectly d least old r new
 HappensDirectly d least old (Made w) new = Makes d old w × (new ≡ written old (Some w))
-HappensDirectly d least old Missed new = new ≡ failed old
+HappensDirectly d least old (Missed w) new = new ≡ missed (Some w) old
 HappensDirectly d least old (Called call r) new = LeavesEntries d.targets.entries call × Step old call r new
 
 -- events, each with the kernel after it
@@ -41,9 +41,9 @@ AllHappenDirectly d least k (x ∷ later) = HappensDirectly d least k x.0 x.1 ×
 
 -- how many writing calls the hand-over made in an event, as the kernel counts them, beside one that failed
 abbrev pub direct_writes_of : KernelState → DirectEvent → KernelState → ℕ
-direct_writes_of k (Stepped r) next = next.writes - k.writes - rise r
+direct_writes_of k (Stepped r) next = writes next - writes k - rise r
 direct_writes_of k (Made w) next = 1
-direct_writes_of k Missed next = 0
+direct_writes_of k (Missed w) next = 0
 direct_writes_of k (Called call r) next = 0
 
 -- how many writes of the hand-over succeed

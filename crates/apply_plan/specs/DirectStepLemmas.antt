@@ -6,7 +6,7 @@ use Rattle.std.specs.List.{AllByRecursion}
 use Rattle.std.specs.FinSet as set
 use Rattle.cpu_set.specs.Ids.{Ids}
 use Rattle.kernel_model.specs.declared.fault.KernelFault.{KernelFault}
-use Rattle.kernel_model.specs.KernelState.{KernelState, failed}
+use Rattle.kernel_model.specs.KernelState.{KernelState, writes}
 use Rattle.kernel_model.specs.Cases.{rise}
 use Rattle.kernel_model.specs.KernelLemmas.{itself_alike}
 use Rattle.apply_plan.specs.declared.entry.Entry.{Entry}
@@ -15,11 +15,11 @@ use Rattle.apply_plan.specs.declared.handover.Progress.{Progress}
 use Rattle.apply_plan.specs.declared.handover.Progress.TheVariants.{More, Done}
 use Rattle.apply_plan.specs.Holders.{IsSafe}
 use Rattle.apply_plan.specs.Targets.{holders_of, IsHandover, IsPlaced, ArePlaced}
-use Rattle.apply_plan.specs.DueWrite.{held, must_move, progress_of, written, HasTarget, HaveTargets}
+use Rattle.apply_plan.specs.DueWrite.{held, must_move, progress_of, written, missed, HasTarget, HaveTargets}
 use Rattle.apply_plan.specs.Leaves.{KeepsRest}
 use Rattle.apply_plan.specs.ListLemmas.{all_map, all_map2, find_among, find_none}
 use Rattle.apply_plan.specs.WriteLemmas.{holds_target, Left, all_left}
-use Rattle.apply_plan.specs.KernelFactLemmas.{with_request, is_write}
+use Rattle.apply_plan.specs.KernelFactLemmas.{with_request, is_write, missed_makes}
 use Rattle.apply_plan.specs.HandoverLemmas.{write_keeps, keeps_itself, nothing_due}
 use Rattle.apply_plan.specs.DirectWords.{are_free}
 use Rattle.apply_plan.specs.MayWrite.{OnWay, MayWrite, left_directly}
@@ -156,7 +156,7 @@ module _ (d : Directed) (valid : IsHandover d.targets) (least : Least) (gives : 
   step_on_way first (Ok answer) s all = subst (AreOnWay d first) (sym s.0) (direct_on_way d valid least gives old placed first (due_directly d least old) now all)
   step_on_way first (Err fault) s all =
       subst (AreOnWay d first) (sym s.1)
-      (all_map (λ a. OnWay d.targets.reserved (allowed_of d a) first a (held old a)) (λ a. OnWay d.targets.reserved (allowed_of d a) first a (held (failed old) a))
+      (all_map (λ a. OnWay d.targets.reserved (allowed_of d a) first a (held old a)) (λ a. OnWay d.targets.reserved (allowed_of d a) first a (held (missed (due_directly d least old) old) a))
       (λ a o. record { keeps = o.keeps; within = o.within }) d.targets.entries all)
 
   pub step_done : (r : Result Progress KernelFault) → StepsDirectly d least old r new → ArePlaced new d.targets.entries → r ≡ Ok Done → HaveTargets new d.targets.entries
@@ -176,12 +176,12 @@ module _ (d : Directed) (valid : IsHandover d.targets) (least : Least) (gives : 
     same (Some w) = omega arith
   step_counts (Err fault) s = ap (λ k. k.failures) s.1 ∙ ap (λ f. old.failures + rise {A = Progress} (Err f)) (sym s.0)
 
-  pub step_makes : (r : Result Progress KernelFault) → StepsDirectly d least old r new → new.writes ≡ old.writes + made_directly d least old
-  step_makes (Ok answer) s = ap (λ k. k.writes) s.0 ∙ same (due_directly d least old) where
-    same : (o : Option Write) → (written old o).writes ≡ old.writes + cond (is_some o) 1 0
+  pub step_makes : (r : Result Progress KernelFault) → StepsDirectly d least old r new → writes new ≡ writes old + made_directly d least old
+  step_makes (Ok answer) s = ap writes s.0 ∙ same (due_directly d least old) where
+    same : (o : Option Write) → writes (written old o) ≡ writes old + cond (is_some o) 1 0
     same None = omega arith
-    same (Some w) = refl
-  step_makes (Err fault) s = ap (λ k. k.writes) s.1 ∙ ap (λ b. old.writes + cond b 1 0) (sym s.2)
+    same (Some w) = omega arith
+  step_makes (Err fault) s = ap writes s.1 ∙ missed_makes (due_directly d least old) old
 
   pub step_keeps : (r : Result Progress KernelFault) → StepsDirectly d least old r new → KeepsRest d.targets old new
   step_keeps (Ok answer) s = subst (KeepsRest d.targets old) (sym s.0) (direct_keeps d valid least gives old placed (due_directly d least old) now)

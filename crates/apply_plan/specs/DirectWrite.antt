@@ -4,11 +4,11 @@ use Rattle.std.specs.FinSet as set
 use Rattle.cpu_set.specs.Ids.{Ids, is_empty}
 use Rattle.kernel_model.specs.declared.fault.KernelFault.{KernelFault}
 use Rattle.kernel_model.specs.declared.fault.KernelFault.TheVariants.{Failed}
-use Rattle.kernel_model.specs.KernelState.{KernelState, failed}
+use Rattle.kernel_model.specs.KernelState.{KernelState}
 use Rattle.apply_plan.specs.declared.entry.Entry.{Entry}
 use Rattle.apply_plan.specs.declared.scan.Write.{Write}
 use Rattle.apply_plan.specs.declared.handover.Progress.{Progress}
-use Rattle.apply_plan.specs.DueWrite.{held, written, progress_of}
+use Rattle.apply_plan.specs.DueWrite.{held, written, missed, progress_of}
 use Rattle.apply_plan.specs.DirectWords.{has_own, may_take, lets_go, blocks, spare, places, way}
 use Rattle.apply_plan.specs.Rings.{in_ring, rings_stand}
 use Rattle.apply_plan.specs.MayWrite.{write_of, left_directly}
@@ -106,10 +106,10 @@ abbrev pub due_directly : Directed → Least → KernelState → Option Write
 due_directly d least k = direct_write k d.targets.reserved d.targets.entries (allowed_of d) least
 
 -- a step makes the write that is due and no other, and tells whether another is due after it; if that write fails it is
--- counted, and nothing else changes
+-- told and counted, and nothing else changes
 abbrev pub StepsDirectly : Directed → Least → KernelState → Result Progress KernelFault → KernelState → Type 0
 StepsDirectly d least old (Ok answer) new = (new ≡ written old (due_directly d least old)) × (answer ≡ progress_of (due_directly d least new))
-StepsDirectly d least old (Err fault) new = (fault ≡ Failed) × (new ≡ failed old) × (is_some (due_directly d least old) ≡ true)
+StepsDirectly d least old (Err fault) new = (fault ≡ Failed) × (new ≡ missed (due_directly d least old) old) × (is_some (due_directly d least old) ≡ true)
 
 -- if a write was due and succeeded, one less is left or fewer; if it failed, as many as before
 abbrev pub LowersDirectly : Directed → Least → KernelState → Result Progress KernelFault → KernelState → Type 0

@@ -1,5 +1,5 @@
 -- The write that is due in a hand-over, by one state of the kernel.
-use Rattle.std.specs.Prelude.{◌≡◌, ◌⊎◌, ℕ, ◌+◌, Bool, true, not, ◌&&◌, cond, List, find, Option, Some, None, is_some, Result, Ok, Err}
+use Rattle.std.specs.Prelude.{◌≡◌, ◌⊎◌, ℕ, ◌+◌, Bool, true, not, ◌&&◌, cond, List, [], ◌∷◌, ◌++◌, find, Option, Some, None, is_some, Result, Ok, Err}
 use Rattle.std.specs.List.{AllByRecursion, sum_by}
 use Rattle.cpu_set.specs.Ids.{Ids, is_same}
 use Rattle.cpuset_tree.specs.Groups.{requested_cpus}
@@ -7,7 +7,8 @@ use Rattle.cpuset_tree.specs.TreeChanges.{with_cpus}
 use Rattle.proctable.specs.Processes.{is_alive}
 use Rattle.kernel_model.specs.declared.fault.KernelFault.{KernelFault}
 use Rattle.kernel_model.specs.declared.fault.KernelFault.TheVariants.{Failed}
-use Rattle.kernel_model.specs.KernelState.{KernelState, counted, failed}
+use Rattle.kernel_model.specs.Trace.{WritingCall, WroteCpus}
+use Rattle.kernel_model.specs.KernelState.{KernelState, writes, recorded}
 use Rattle.apply_plan.specs.declared.entry.Entry.{Entry}
 use Rattle.apply_plan.specs.declared.scan.Write.{Write}
 use Rattle.apply_plan.specs.declared.handover.Progress.{Progress}
@@ -51,10 +52,19 @@ due_write k reserved entries = first_write k reserved (find (must_release k rese
 abbrev pub due : Targets → KernelState → Option Write
 due h k = due_write k h.reserved h.entries
 
--- the kernel after a write, which is counted
+-- the writing call that a write is, with its answer; none if there is no write
+abbrev pub asks_for : Option Write → Result (Unit {0}) KernelFault → List WritingCall
+asks_for None r = []
+asks_for (Some w) r = WroteCpus w.group w.cpus r ∷ []
+
+-- the kernel after a write, which is told
 abbrev pub written : KernelState → Option Write → KernelState
 written k None = k
-written k (Some w) = record (counted k) { tree = with_cpus k.tree w.group w.cpus }
+written k (Some w) = record (recorded (WroteCpus w.group w.cpus (Ok tt)) k) { tree = with_cpus k.tree w.group w.cpus }
+
+-- the kernel after a write that failed: it is told, and counted as a failure, and nothing else changed
+abbrev pub missed : Option Write → KernelState → KernelState
+missed d k = record k { failures = k.failures + 1; trace = asks_for d (Err Failed) ++ k.trace }
 
 -- whether anything is due yet
 abbrev pub progress_of : Option Write → Progress
@@ -62,10 +72,10 @@ progress_of None = Done
 progress_of (Some w) = More
 
 -- a step makes the write that is due and no other, and tells whether another is due after it; if that write fails it is
--- counted, and nothing else changes
+-- told and counted, and nothing else changes
 abbrev pub Steps : Targets → KernelState → Result Progress KernelFault → KernelState → Type 0
 Steps h old (Ok answer) new = (new ≡ written old (due h old)) × (answer ≡ progress_of (due h new))
-Steps h old (Err fault) new = (fault ≡ Failed) × (new ≡ failed old) × (is_some (due h old) ≡ true)
+Steps h old (Err fault) new = (fault ≡ Failed) × (new ≡ missed (due h old) old) × (is_some (due h old) ≡ true)
 
 -- how many writes an entry waits for
 abbrev pub writes_of : KernelState → Ids → Entry → ℕ
@@ -104,4 +114,4 @@ made_by_step h k = cond (is_some (due h k)) 1 0
 
 -- the kernel was written once for each write that is less to come, and once for each that failed
 abbrev pub Spends : Targets → KernelState → ℕ → KernelState → Type 0
-Spends h old failures new = new.writes + writes_to_come h new ≡ old.writes + writes_to_come h old + failures
+Spends h old failures new = writes new + writes_to_come h new ≡ writes old + writes_to_come h old + failures

@@ -9,7 +9,7 @@ use Rattle.cpuset_tree.specs.Groups.{same_group}
 use Rattle.cpuset_tree.specs.TreeLemmas.{writes_request}
 use Rattle.proctable.specs.Processes.{is_alive}
 use Rattle.kernel_model.specs.declared.fault.KernelFault.{KernelFault}
-use Rattle.kernel_model.specs.KernelState.{KernelState}
+use Rattle.kernel_model.specs.KernelState.{KernelState, writes}
 use Rattle.kernel_model.specs.Cases.{rise}
 use Rattle.apply_plan.specs.declared.entry.Entry.{Entry}
 use Rattle.apply_plan.specs.declared.scan.Write.{Write}
@@ -21,7 +21,7 @@ use Rattle.apply_plan.specs.Targets.{Targets, holders_of, IsHandover, IsPlaced, 
 use Rattle.apply_plan.specs.DueWrite.{held, kept_of, must_release, must_move, release_of, move_of, due, written, progress_of, Steps, writes_of, writes_to_come, HasTarget, HaveTargets, IsBetween, Between, Lowers, made_by_step, Spends}
 use Rattle.apply_plan.specs.Leaves.{KeepsRest}
 use Rattle.apply_plan.specs.ListLemmas.{all_map, find_none, find_among, sum_bounded}
-use Rattle.apply_plan.specs.KernelFactLemmas.{with_request, is_write, stands}
+use Rattle.apply_plan.specs.KernelFactLemmas.{with_request, is_write, missed_makes, stands}
 use Rattle.apply_plan.specs.WriteLemmas.{holds_target}
 use Rattle.apply_plan.specs.StepLemmas.{waits_at_most, released_safe, released_lowers, moved_safe, moved_lowers, stays_between, keeps_between}
 use Rattle.apply_plan.specs.DueLemmas.{Due, Releases, Moves, Rests, due_is}
@@ -153,20 +153,20 @@ module _ (h : Targets) (valid : IsHandover h) (old new : KernelState) (placed : 
     same (Some w) = omega arith
   step_counts (Err fault) s = ap (λ k. k.failures) s.1 ∙ ap (λ f. old.failures + rise {A = Progress} (Err f)) (sym s.0)
 
-  pub step_makes : (r : Result Progress KernelFault) → Steps h old r new → new.writes ≡ old.writes + made_by_step h old
-  step_makes (Ok answer) s = ap (λ k. k.writes) s.0 ∙ more (due h old) where
-    more : (d : Option Write) → (written old d).writes ≡ old.writes + cond (is_some d) 1 0
+  pub step_makes : (r : Result Progress KernelFault) → Steps h old r new → writes new ≡ writes old + made_by_step h old
+  step_makes (Ok answer) s = ap writes s.0 ∙ more (due h old) where
+    more : (d : Option Write) → writes (written old d) ≡ writes old + cond (is_some d) 1 0
     more None = omega arith
-    more (Some w) = refl
-  step_makes (Err fault) s = ap (λ k. k.writes) s.1 ∙ ap (λ (b : Bool). old.writes + cond b 1 0) (sym s.2)
+    more (Some w) = omega arith
+  step_makes (Err fault) s = ap writes s.1 ∙ missed_makes (due h old) old
 
   pub step_spends : (r : Result Progress KernelFault) → Steps h old r new → Spends h old (rise r) new
   step_spends (Ok answer) s =
-      let made : new.writes ≡ old.writes + made_by_step h old = step_makes (Ok answer) s in
+      let made : writes new ≡ writes old + made_by_step h old = step_makes (Ok answer) s in
       let less : writes_to_come h old ≡ writes_to_come h new + made_by_step h old = step_lowers (Ok answer) s in
       omega (arith, made, less)
   step_spends (Err fault) s =
-      let made : new.writes ≡ old.writes + 1 = ap (λ k. k.writes) s.1 in
+      let made : writes new ≡ writes old + 1 = step_makes (Err fault) s ∙ ap (λ (b : Bool). writes old + cond b 1 0) s.2 in
       let same : writes_to_come h old ≡ writes_to_come h new = step_lowers (Err fault) s in
       let risen : rise {A = Progress} (Err fault) ≡ 1 = ap (λ (f : KernelFault). rise {A = Progress} (Err f)) s.0 in
       omega (arith, made, same, risen)

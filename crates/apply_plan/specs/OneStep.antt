@@ -1,7 +1,7 @@
 -- What one step of a hand-over leaves, of plain states.
 use Rattle.std.specs.Prelude.{◌≡◌, ◌+◌, Result, Ok}
 use Rattle.kernel_model.specs.declared.KernelFault.{KernelFault}
-use Rattle.kernel_model.specs.KernelState.{KernelState}
+use Rattle.kernel_model.specs.KernelState.{KernelState, writes}
 use Rattle.kernel_model.specs.Cases.{rise}
 use Rattle.kernel_model.specs.Laws.{StepKeeps}
 use Rattle.apply_plan.specs.declared.handover.Progress.{Progress}
@@ -24,7 +24,7 @@ pub record StepLeaves (h : Targets) (old : KernelState) (r : Result Progress Ker
   pub lowers : Lowers h old r new
   pub between : (first : KernelState) → Between h first old → Between h first new
   pub counted : new.failures ≡ old.failures + rise r
-  pub made : new.writes ≡ old.writes + made_by_step h old
+  pub made : writes new ≡ writes old + made_by_step h old
   pub spends : Spends h old (rise r) new
   pub spent : r ≡ Ok Done → writes_to_come h new ≡ 0
   pub kernel : StepKeeps old new

@@ -1,5 +1,5 @@
 -- What whole runs of a hand-over leave, whatever happens between its steps.
-use Rattle.std.proofs.Common.{◌≡◌, ◌+◌, ◌<◌, ◌≤◌, Bool, true, false, List, [], ◌∷◌, refl, sym, ap, ◌∙◌, subst, arith, inl, inr}
+use Rattle.std.proofs.Common.{◌≡◌, ◌+◌, ◌<◌, ◌≤◌, Bool, true, false, List, [], ◌∷◌, ◌++◌, refl, sym, ap, ◌∙◌, subst, arith, inl, inr}
 use Rattle.std.proofs.lemmas.Bool.{false≢true}
 use Rattle.std.specs.Prelude.{cond, Option, Some, None, is_some, IfSome, Result, Ok, Err}
 use Rattle.std.specs.List.{AllByRecursion}
@@ -8,7 +8,7 @@ use Rattle.cpu_set.specs.Ids.{Ids, is_empty}
 use Rattle.cpuset_tree.specs.Groups.{cpus_in, requested_cpus}
 use Rattle.proctable.specs.Processes.{is_alive}
 use Rattle.kernel_model.specs.declared.KernelFault.{KernelFault}
-use Rattle.kernel_model.specs.KernelState.{KernelState, failed}
+use Rattle.kernel_model.specs.KernelState.{KernelState}
 use Rattle.kernel_model.specs.Cases.{rise}
 use Rattle.kernel_model.specs.Laws.{StepKeeps}
 use Rattle.apply_plan.specs.declared.entry.Entry.{Entry}
@@ -16,7 +16,7 @@ use Rattle.apply_plan.specs.declared.handover.Progress.{Progress}
 use Rattle.apply_plan.specs.declared.handover.Progress.TheVariants.{More, Done}
 use Rattle.apply_plan.specs.Holders.{AreApart, HasSome, IsSafe}
 use Rattle.apply_plan.specs.Targets.{Targets, holder_of, holders_of, IsPlaced}
-use Rattle.apply_plan.specs.DueWrite.{held, due, Steps, written, progress_of, writes_of, writes_to_come, IsBetween, Between, made_by_step, Spends}
+use Rattle.apply_plan.specs.DueWrite.{held, due, Steps, written, asks_for, missed, progress_of, writes_of, writes_to_come, IsBetween, Between, made_by_step, Spends}
 use Rattle.apply_plan.specs.OneStep.{StepLeaves, StepsLeave}
 use Rattle.apply_plan.specs.Runs.{Event, Stepped, Called, Happens, AllHappen, IsOpen, StaysSafe, StaysBetween, EndsWithin, writes_in, writes_of_event, last_of}
 use Rattle.apply_plan.specs.ListLemmas.{all_map, all_map2, all_of, all_of_map, of_all_map, pairs_map, pairs_of_map, of_pairs_map, sum_le}
@@ -26,9 +26,8 @@ use Rattle.apply_plan.specs.EventLemmas.{IsCalm, calm, still_open}
 use Rattle.apply_plan.specs.HandoverLemmas.{step_safe, step_lowers, step_between, step_done, step_counts, step_makes, step_spends, done_none, step_keeps}
 use Rattle.apply_plan.specs.KernelFactLemmas.{placed_alike}
 use Rattle.apply_plan.specs.declared.scan.Write.{Write}
-use Rattle.cpuset_tree.specs.declared.Group.{Group}
 use Rattle.kernel_model.specs.declared.KernelFault.TheVariants.{Failed}
-use Rattle.kernel_model.specs.KernelLemmas.{each_case_keeps, runs_keep}
+use Rattle.kernel_model.specs.KernelLemmas.{each_case_keeps, keeps_itself, runs_keep, whatever_is_told}
 use Rattle.kernel_model.specs.RefusalLemmas.{calls_are_free}
 use Rattle.apply_plan.specs.DueLemmas.{due_is_placed}
 
@@ -73,15 +72,12 @@ module _ (h : Targets) (old new : KernelState) (before : IsOpen h old) where
       let placed = subst (λ d. IfSome d (λ v. IsPlaced old v.group)) is (due_is_placed old h.reserved h.entries before.placed) in
       (each_case_keeps old (written old (Some w)) before.well_formed).cpus w.group w.cpus (Ok tt) (((calls_are_free old).write w.group).1 (placed.there, placed.below), refl)
 
-  any_group : Group
-  any_group = record { key = 0; serial = 0 }
-
-  failed_kernel : StepKeeps old (failed old)
-  failed_kernel = (each_case_keeps old (failed old) before.well_formed).cpus any_group set.empty (Err Failed) refl
+  missed_kernel : StepKeeps old (missed (due h old) old)
+  missed_kernel = whatever_is_told old old (old.failures + 1) (asks_for (due h old) (Err Failed) ++ old.trace) (keeps_itself old before.well_formed)
 
   step_kernel : (r : Result Progress KernelFault) → Steps h old r new → StepKeeps old new
   step_kernel (Ok answer) s = subst (StepKeeps old) (sym s.0) (written_kernel (due h old) refl)
-  step_kernel (Err fault) s = subst (StepKeeps old) (sym s.1) failed_kernel
+  step_kernel (Err fault) s = subst (StepKeeps old) (sym s.1) missed_kernel
 
   step_stays_open : (r : Result Progress KernelFault) → Steps h old r new → IsOpen h new
   step_stays_open r s =

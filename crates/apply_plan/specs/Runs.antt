@@ -8,7 +8,7 @@ use Rattle.kernel_model.specs.declared.KernelFault.{KernelFault}
 use Rattle.kernel_model.specs.declared.Call.{Call}
 use Rattle.kernel_model.specs.declared.Call.TheVariants.{RemoveGroup, WriteCpus, WriteMems}
 use Rattle.kernel_model.specs.declared.Reply.{Reply}
-use Rattle.kernel_model.specs.KernelState.{KernelState}
+use Rattle.kernel_model.specs.KernelState.{KernelState, writes}
 use Rattle.kernel_model.specs.WellFormed.{IsWellFormed}
 use Rattle.kernel_model.specs.Cases.{rise}
 use Rattle.kernel_model.specs.Runs.{Step}
@@ -63,7 +63,7 @@ StaysBetween =
 
 -- how many writing calls the hand-over made in an event, as the kernel counts them, beside one that failed
 abbrev pub writes_of_event : KernelState → Event → KernelState → ℕ
-writes_of_event k (Stepped r) next = next.writes - k.writes - rise r
+writes_of_event k (Stepped r) next = writes next - writes k - rise r
 writes_of_event k (Called call r) next = 0
 
 -- how many writes of the hand-over succeed

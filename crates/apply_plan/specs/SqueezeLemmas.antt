@@ -7,12 +7,12 @@ use Rattle.std.specs.FinSet as set
 use Rattle.cpu_set.specs.Ids.{Ids, is_empty}
 use Rattle.cpu_set.specs.PointwiseLaws.{is_same_decides}
 use Rattle.kernel_model.specs.declared.fault.KernelFault.{KernelFault}
-use Rattle.kernel_model.specs.KernelState.{KernelState, failed}
+use Rattle.kernel_model.specs.KernelState.{KernelState}
 use Rattle.apply_plan.specs.declared.entry.Entry.{Entry}
 use Rattle.apply_plan.specs.declared.scan.Write.{Write}
 use Rattle.apply_plan.specs.declared.handover.Progress.{Progress}
 use Rattle.apply_plan.specs.Targets.{IsHandover, IsPlaced, ArePlaced}
-use Rattle.apply_plan.specs.DueWrite.{held, must_move, written}
+use Rattle.apply_plan.specs.DueWrite.{held, must_move, written, missed}
 use Rattle.apply_plan.specs.ListLemmas.{all_map, all_map2, all_of, find_none, find_passes, find_among}
 use Rattle.apply_plan.specs.WriteLemmas.{by_test, Left, all_left}
 use Rattle.apply_plan.specs.DirectWords.{has_own, are_free, lets_go, blocks, spare, places, way}
@@ -153,7 +153,7 @@ module _ (d : Directed) (valid : IsHandover d.targets) (least : Least) (gives : 
   by_write w (cases.IsSqueezed e none no_share no_aside found) = of_it (must_yield old d.targets.reserved d.targets.entries) e (squeezed old d.targets.reserved d.targets.entries e) found
       (λ a is has squeezed. subst (IsStuck d least old) (sym is) (is_stuck d valid least gives old no_share no_aside e none found))
 
-  none_squeezed : (new : KernelState) → ((a : Entry) → held new a ≡ held old a) → SqueezesOnlyStuck d least old new
+  pub none_squeezed : (new : KernelState) → ((a : Entry) → held new a ≡ held old a) → SqueezesOnlyStuck d least old new
   none_squeezed new same = all_of (λ a. IsSqueezed d.targets.reserved old new a → IsStuck d least old a)
       (λ a is. absurd (false≢true (sym is.has ∙ ap (has_own d.targets.reserved) (same a) ∙ is.had))) d.targets.entries
 
@@ -163,4 +163,4 @@ module _ (d : Directed) (valid : IsHandover d.targets) (least : Least) (gives : 
 
   pub step_squeezes : (new : KernelState) (r : Result Progress KernelFault) → StepsDirectly d least old r new → SqueezesOnlyStuck d least old new
   step_squeezes new (Ok answer) s = subst (SqueezesOnlyStuck d least old) (sym s.0) (by_due (due_directly d least old) (direct_is d least old))
-  step_squeezes new (Err fault) s = subst (SqueezesOnlyStuck d least old) (sym s.1) (none_squeezed (failed old) (λ a. refl))
+  step_squeezes new (Err fault) s = subst (SqueezesOnlyStuck d least old) (sym s.1) (none_squeezed (missed (due_directly d least old) old) (λ a. refl))

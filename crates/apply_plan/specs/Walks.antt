@@ -4,12 +4,12 @@ use Rattle.std.specs.List.{AllByRecursion}
 use Rattle.cpu_set.specs.Ids.{Ids, is_same}
 use Rattle.kernel_model.specs.declared.fault.KernelFault.{KernelFault}
 use Rattle.kernel_model.specs.declared.fault.KernelFault.TheVariants.{Failed}
-use Rattle.kernel_model.specs.KernelState.{KernelState, failed}
+use Rattle.kernel_model.specs.KernelState.{KernelState}
 use Rattle.apply_plan.specs.declared.entry.Entry.{Entry}
 use Rattle.apply_plan.specs.declared.scan.Write.{Write}
 use Rattle.apply_plan.specs.Targets.{Targets, ArePlaced}
 use Rattle.apply_plan.specs.Kept.{kept}
-use Rattle.apply_plan.specs.DueWrite.{must_release, must_move, release_of, move_of, due, written}
+use Rattle.apply_plan.specs.DueWrite.{must_release, must_move, release_of, move_of, due, written, missed}
 
 -- an entry whose container must move
 abbrev pub moving : KernelState → Entry → Option Entry
@@ -28,10 +28,10 @@ its_release k reserved e = cond (must_release k reserved e) (Some (release_of k 
 abbrev pub its_move : KernelState → Entry → Option Write
 its_move k e = cond (must_move k e) (Some (move_of e)) None
 
--- a write is made, if there is one; where it fails it is counted, and nothing else changes
+-- a write is made, if there is one; where it fails it is told and counted, and nothing else changes
 abbrev pub IsMadeIfAny : Option Write → KernelState → Result (Unit {0}) KernelFault → KernelState → Type 0
 IsMadeIfAny w old (Ok _) new = new ≡ written old w
-IsMadeIfAny w old (Err fault) new = (fault ≡ Failed) × (new ≡ failed old) × (is_some w ≡ true)
+IsMadeIfAny w old (Err fault) new = (fault ≡ Failed) × (new ≡ missed w old) × (is_some w ≡ true)
 
 -- that a write was made, or that it failed
 abbrev pub done_of : Result ℕ KernelFault → Result (Unit {0}) KernelFault
@@ -53,7 +53,7 @@ pub record Stops (h : Targets) (old : KernelState) (error : KernelFault) (new : 
   pub made : HasWritten h old mid
   pub wanted : is_some (due h mid) ≡ true
   pub fault : error ≡ Failed
-  pub is : new ≡ failed mid
+  pub is : new ≡ missed (due h mid) mid
 
 -- no entry passes the test
 abbrev pub NoneMust : (Entry → Bool) → List Entry → Type 0

@@ -22,7 +22,7 @@ requesting live of_web of_batch = record {
   present = set.from_list (0 ∷ 1 ∷ 2 ∷ 3 ∷ []);
   reserved = set.from_list (0 ∷ []);
   failures = 0;
-  writes = 0;
+  trace = [];
 }
 
 -- both containers live

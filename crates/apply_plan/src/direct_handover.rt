@@ -1,5 +1,5 @@
 ghost use Rattle.std.specs.Prelude.{◌≡◌, ◌+◌, ◌*◌, ◌≤◌, length, Ok, IfOk, find, is_none};
-ghost use Rattle.kernel_model.specs.KernelState.{KernelState};
+ghost use Rattle.kernel_model.specs.KernelState.{KernelState, writes};
 ghost use Rattle.kernel_model.specs.Cases.{rise};
 ghost use Rattle.apply_plan.specs.Holders.{IsSafe};
 ghost use Rattle.apply_plan.specs.Targets.{holders_of, ArePlaced};
@@ -191,7 +191,7 @@ impl DirectHandover {
         // Each that succeeds makes them fewer, and one that fails does not.
         ensures lowers { LowersDirectly self.old (C.least_of cores.now) (K.state kernel.old) result (K.state kernel.new) }
         // It makes one writing call if a write is due, and else none.
-        ensures made { (K.state kernel.new).writes ≡ (K.state kernel.old).writes
+        ensures made { writes (K.state kernel.new) ≡ writes (K.state kernel.old)
             + made_directly self.old (C.least_of cores.now) (K.state kernel.old) }
         // Each container requests none but what it did at first, its target, reserved CPUs and those that it is
         // allowed. It keeps all of its target that it requested at first.

@@ -1,5 +1,5 @@
 ghost use Rattle.std.specs.Prelude.{◌≡◌, ◌+◌, ◌*◌, ◌≤◌, length, IsOk};
-ghost use Rattle.kernel_model.specs.KernelState.{KernelState};
+ghost use Rattle.kernel_model.specs.KernelState.{KernelState, writes};
 ghost use Rattle.kernel_model.specs.Cases.{rise};
 ghost use Rattle.apply_plan.specs.Holders.{IsSafe};
 ghost use Rattle.apply_plan.specs.Targets.{Targets, holders_of, IsHandover, ArePlaced};
@@ -109,7 +109,7 @@ impl Handover {
         // Each that succeeds is one less, and one that fails none.
         ensures lowers { Lowers self.old (K.state kernel.old) result (K.state kernel.new) }
         // It makes one writing call if a write is due, and else none.
-        ensures made { (K.state kernel.new).writes ≡ (K.state kernel.old).writes
+        ensures made { writes (K.state kernel.new) ≡ writes (K.state kernel.old)
             + made_by_step self.old (K.state kernel.old) }
         // Each container requests what it did at first, what it keeps of that, or its target.
         ensures between { (first : KernelState) → Between self.old first (K.state kernel.old)
@@ -153,10 +153,10 @@ impl Handover {
         // It makes one writing call for each write that is less to come, and one for a failure.
         ensures made { Spends self.old (K.state kernel.old) (rise result) (K.state kernel.new) }
         // At the end it has made exactly as many writing calls as writes were to come.
-        ensures all { IsOk result → (K.state kernel.new).writes ≡ (K.state kernel.old).writes
+        ensures all { IsOk result → writes (K.state kernel.new) ≡ writes (K.state kernel.old)
             + writes_to_come self.old (K.state kernel.old) }
         // That is at most two for each entry, and the one that failed.
-        ensures few { (K.state kernel.new).writes ≤ (K.state kernel.old).writes + 2 * length self.old.entries
+        ensures few { writes (K.state kernel.new) ≤ writes (K.state kernel.old) + 2 * length self.old.entries
             + rise result }
         // Each container requests what it did at first, what it keeps of that, or its target.
         ensures between { (first : KernelState) → Between self.old first (K.state kernel.old)

@@ -1,21 +1,21 @@
 -- What all writes of a direct hand-over leave.
-use Rattle.std.proofs.Common.{◌≡◌, ◌+◌, ◌*◌, ◌≤◌, List, length, true, false, refl, sym, ap, subst, arith, inl, inr}
+use Rattle.std.proofs.Common.{◌≡◌, ◌+◌, ◌*◌, ◌≤◌, List, length, true, false, refl, sym, ap, ◌∙◌, subst, arith, inl, inr}
 use Rattle.std.proofs.lemmas.Bool.{false≢true}
 use Rattle.std.specs.Prelude.{find, Option, Some, None, is_none, Result, Ok, Err, IsOk}
 use Rattle.kernel_model.specs.declared.KernelFault.{KernelFault}
-use Rattle.kernel_model.specs.KernelState.{KernelState, failed}
+use Rattle.kernel_model.specs.KernelState.{KernelState, writes}
 use Rattle.kernel_model.specs.Cases.{rise}
 use Rattle.kernel_model.specs.KernelLemmas.{itself_alike}
 use Rattle.apply_plan.specs.declared.Entry.{Entry}
 use Rattle.apply_plan.specs.declared.scan.Write.{Write}
 use Rattle.apply_plan.specs.Holders.{IsSafe}
 use Rattle.apply_plan.specs.Targets.{holders_of, IsHandover, IsPlaced, ArePlaced}
-use Rattle.apply_plan.specs.DueWrite.{held, must_move, written, HasTarget, HaveTargets}
+use Rattle.apply_plan.specs.DueWrite.{held, must_move, written, missed, HasTarget, HaveTargets}
 use Rattle.apply_plan.specs.Leaves.{KeepsRest}
 use Rattle.apply_plan.specs.LeavesLemmas.{rest_then}
 use Rattle.apply_plan.specs.ListLemmas.{all_map, find_none}
 use Rattle.apply_plan.specs.WriteLemmas.{holds_target}
-use Rattle.apply_plan.specs.KernelFactLemmas.{made_is_placed}
+use Rattle.apply_plan.specs.KernelFactLemmas.{made_is_placed, missed_makes}
 use Rattle.apply_plan.specs.HandoverLemmas.{keeps_itself}
 use Rattle.apply_plan.specs.MayWrite.{OnWay, left_directly}
 use Rattle.apply_plan.specs.Directed.{Directed, allowed_of, Least, Serves}
@@ -48,13 +48,13 @@ module _ (d : Directed) (valid : IsHandover d.targets) (least : Least) (serves :
     both_on : (k : KernelState) (w : Write) → MayFollow d least k w → Both k → Both (written k (Some w))
     both_on k w follows b = (made_is_placed k (written k (Some w)) (Some w) (Ok tt) refl d.targets.entries b.0, keeps k w b.0 (may_make k w follows) b.1)
 
-    pub along : (old : KernelState) (writes : List Write) → Follow (MayFollow d least) old writes → ArePlaced old d.targets.entries → Q old → Both (after old writes)
-    along old writes follow placed q = kept_along (MayFollow d least) Both both_on writes old follow (placed, q)
+    pub along : (old : KernelState) (ws : List Write) → Follow (MayFollow d least) old ws → ArePlaced old d.targets.entries → Q old → Both (after old ws)
+    along old ws follow placed q = kept_along (MayFollow d least) Both both_on ws old follow (placed, q)
 
-  pub along_safe : (old : KernelState) (writes : List Write) → Follow (MayFollow d least) old writes → ArePlaced old d.targets.entries → IsSafe old d.targets.reserved (holders_of d.targets.entries)
-      → ArePlaced (after old writes) d.targets.entries × IsSafe (after old writes) d.targets.reserved (holders_of d.targets.entries)
-  along_safe old writes follow placed safe =
-      along (λ k. IsSafe k d.targets.reserved (holders_of d.targets.entries)) (λ k w p m s. made_safe d valid k p w m s) old writes follow placed safe
+  pub along_safe : (old : KernelState) (ws : List Write) → Follow (MayFollow d least) old ws → ArePlaced old d.targets.entries → IsSafe old d.targets.reserved (holders_of d.targets.entries)
+      → ArePlaced (after old ws) d.targets.entries × IsSafe (after old ws) d.targets.reserved (holders_of d.targets.entries)
+  along_safe old ws follow placed safe =
+      along (λ k. IsSafe k d.targets.reserved (holders_of d.targets.entries)) (λ k w p m s. made_safe d valid k p w m s) old ws follow placed safe
 
   -- after some of them what was safe is safe, and the entries are placed
   pub written_safe : (old new : KernelState) → HasWritten (MayFollow d least) old new → ArePlaced old d.targets.entries → IsSafe old d.targets.reserved (holders_of d.targets.entries)
@@ -72,29 +72,29 @@ module _ (d : Directed) (valid : IsHandover d.targets) (least : Least) (serves :
     last_placed = (along (λ k. Unit {0}) (λ k w p m u. tt) old f.writes f.follow placed tt).0
 
     -- what the last one keeps, the end keeps
-    module _ (Q : KernelState → Type 0) (fails : (k : KernelState) → Q k → Q (failed k)) where
+    module _ (Q : KernelState → Type 0) (fails : (k : KernelState) (w : Write) → Q k → Q (missed (Some w) k)) where
       at_end : (x : Result (Unit {0}) KernelFault) → EndsAt d least last x new → Q last → Q new
       at_end (Ok _) ends q = subst Q (sym ends.0) q
-      at_end (Err fault) ends q = subst Q (sym ends.1) (fails last q)
+      at_end (Err fault) ends q = subst Q (sym ends.1.2) (fails last ends.1.0 q)
 
     pub finish_placed : ArePlaced new d.targets.entries
     finish_placed = at_end (λ k. ArePlaced k d.targets.entries)
-        (λ k p. all_map (λ e. IsPlaced k e.group) (λ e. IsPlaced (failed k) e.group) (λ e q. record { there = q.there; below = q.below }) d.targets.entries p) r f.ends last_placed
+        (λ k w p. all_map (λ e. IsPlaced k e.group) (λ e. IsPlaced (missed (Some w) k) e.group) (λ e q. record { there = q.there; below = q.below }) d.targets.entries p) r f.ends last_placed
 
     pub finish_safe : IsSafe old d.targets.reserved (holders_of d.targets.entries) → IsSafe new d.targets.reserved (holders_of d.targets.entries)
     finish_safe safe =
-        at_end (λ k. IsSafe k d.targets.reserved (holders_of d.targets.entries)) (λ k s. record { apart = s.apart; some = s.some }) r f.ends (along_safe old f.writes f.follow placed safe).1
+        at_end (λ k. IsSafe k d.targets.reserved (holders_of d.targets.entries)) (λ k w s. record { apart = s.apart; some = s.some }) r f.ends (along_safe old f.writes f.follow placed safe).1
 
     pub finish_on_way : (first : KernelState) → AreOnWay d first old → AreOnWay d first new
     finish_on_way first on =
         at_end (AreOnWay d first)
-        (λ k all. all_map (λ a. OnWay d.targets.reserved (allowed_of d a) first a (held k a)) (λ a. OnWay d.targets.reserved (allowed_of d a) first a (held (failed k) a))
+        (λ k w all. all_map (λ a. OnWay d.targets.reserved (allowed_of d a) first a (held k a)) (λ a. OnWay d.targets.reserved (allowed_of d a) first a (held (missed (Some w) k) a))
         (λ a o. record { keeps = o.keeps; within = o.within }) d.targets.entries all) r f.ends
         (along (AreOnWay d first) (λ k w p m s. made_on_way d valid k p w m first s) old f.writes f.follow placed on).1
 
     pub finish_keeps : KeepsRest d.targets old new
     finish_keeps =
-        at_end (KeepsRest d.targets old) (λ k rest. rest_then d.targets old k (failed k) rest (record {
+        at_end (KeepsRest d.targets old) (λ k w rest. rest_then d.targets old k (missed (Some w) k) rest (record {
           table = refl;
           present = refl;
           reserved = refl;
@@ -109,12 +109,12 @@ module _ (d : Directed) (valid : IsHandover d.targets) (least : Least) (serves :
     last_counts : last.failures ≡ old.failures
     last_counts = (along (λ k. k.failures ≡ old.failures) (λ k w p m same. same) old f.writes f.follow placed refl).1
 
-    last_spends : last.writes + left_directly d.targets last ≤ old.writes + left_directly d.targets old
+    last_spends : writes last + left_directly d.targets last ≤ writes old + left_directly d.targets old
     last_spends =
-        (along (λ k. k.writes + left_directly d.targets k ≤ old.writes + left_directly d.targets old)
+        (along (λ k. writes k + left_directly d.targets k ≤ writes old + left_directly d.targets old)
         (λ k w p m so_far.
         let less : left_directly d.targets (written k (Some w)) + 1 ≤ left_directly d.targets k = made_lowers d valid k p w m in
-        let one : (written k (Some w)).writes ≡ k.writes + 1 = refl in
+        let one : writes (written k (Some w)) ≡ writes k + 1 = omega arith in
         omega (arith, so_far, less, one)) old f.writes f.follow placed (omega arith)).1
 
     pub finish_counts : new.failures ≡ old.failures + rise r
@@ -122,7 +122,7 @@ module _ (d : Directed) (valid : IsHandover d.targets) (least : Least) (serves :
       by : (x : Result (Unit {0}) KernelFault) → EndsAt d least last x new → new.failures ≡ old.failures + rise x
       by (Ok _) ends = let same : new.failures ≡ last.failures = ap (λ k. k.failures) ends.0 in let none : last.failures ≡ old.failures = last_counts in omega (arith, same, none)
       by (Err fault) ends =
-          let one : new.failures ≡ last.failures + 1 = ap (λ k. k.failures) ends.1 in
+          let one : new.failures ≡ last.failures + 1 = ap (λ k. k.failures) ends.1.2 in
           let none : last.failures ≡ old.failures = last_counts in
           let risen : rise {A = Unit {0}} (Err fault) ≡ 1 = ap (λ (x : KernelFault). rise {A = Unit {0}} (Err x)) ends.0 in
           omega (arith, one, none, risen)
@@ -131,20 +131,20 @@ module _ (d : Directed) (valid : IsHandover d.targets) (least : Least) (serves :
     finish_spends = by r f.ends where
       by : (x : Result (Unit {0}) KernelFault) → EndsAt d least last x new → SpendsDirectly d old (rise x) new
       by (Ok _) ends =
-          let same : new.writes ≡ last.writes = ap (λ k. k.writes) ends.0 in
+          let same : writes new ≡ writes last = ap writes ends.0 in
           let left : left_directly d.targets new ≡ left_directly d.targets last = ap (left_directly d.targets) ends.0 in
-          let spent : last.writes + left_directly d.targets last ≤ old.writes + left_directly d.targets old = last_spends in
+          let spent : writes last + left_directly d.targets last ≤ writes old + left_directly d.targets old = last_spends in
           omega (arith, same, left, spent)
       by (Err fault) ends =
-          let one : new.writes ≡ last.writes + 1 = ap (λ k. k.writes) ends.1 in
-          let left : left_directly d.targets new ≡ left_directly d.targets last = ap (left_directly d.targets) ends.1 in
-          let spent : last.writes + left_directly d.targets last ≤ old.writes + left_directly d.targets old = last_spends in
+          let one : writes new ≡ writes last + 1 = ap writes ends.1.2 ∙ missed_makes (Some ends.1.0) last in
+          let left : left_directly d.targets new ≡ left_directly d.targets last = ap (left_directly d.targets) ends.1.2 in
+          let spent : writes last + left_directly d.targets last ≤ writes old + left_directly d.targets old = last_spends in
           let risen : rise {A = Unit {0}} (Err fault) ≡ 1 = ap (λ (x : KernelFault). rise {A = Unit {0}} (Err x)) ends.0 in
           omega (arith, one, left, spent, risen)
 
-    pub finish_few : new.writes ≤ old.writes + 2 * length d.targets.entries + rise r
+    pub finish_few : writes new ≤ writes old + 2 * length d.targets.entries + rise r
     finish_few =
-        let spent : new.writes + left_directly d.targets new ≤ old.writes + left_directly d.targets old + rise r = finish_spends in
+        let spent : writes new + left_directly d.targets new ≤ writes old + left_directly d.targets old + rise r = finish_spends in
         let few : left_directly d.targets old ≤ 2 * length d.targets.entries = few_left d.targets old in
         omega (arith, spent, few)
 

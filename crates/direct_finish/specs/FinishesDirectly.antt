@@ -2,11 +2,11 @@
 use Rattle.std.specs.Prelude.{◌≡◌, ◌⊎◌, Bool, true, List, [], ◌∷◌, ◌++◌, find, Some, is_none, Result, Ok, Err}
 use Rattle.kernel_model.specs.declared.KernelFault.{KernelFault}
 use Rattle.kernel_model.specs.declared.KernelFault.TheVariants.{Failed}
-use Rattle.kernel_model.specs.KernelState.{KernelState, failed}
+use Rattle.kernel_model.specs.KernelState.{KernelState}
 use Rattle.apply_plan.specs.declared.Entry.{Entry}
 use Rattle.apply_plan.specs.declared.scan.Write.{Write}
 use Rattle.apply_plan.specs.Targets.{Targets}
-use Rattle.apply_plan.specs.DueWrite.{must_move, written}
+use Rattle.apply_plan.specs.DueWrite.{must_move, written, missed}
 use Rattle.apply_plan.specs.DirectWords.{may_take}
 use Rattle.apply_plan.specs.MayWrite.{write_of}
 use Rattle.apply_plan.specs.Directed.{Directed, Least}
@@ -35,10 +35,10 @@ abbrev pub after : KernelState → List Write → KernelState
 after k [] = k
 after k (w ∷ later) = after (written k (Some w)) later
 
--- after the last of them nobody must move any more; or one more fails, which is counted, and nothing else changes
+-- after the last of them nobody must move any more; or one more fails, which is told and counted, and nothing else changes
 abbrev pub EndsAt : Directed → Least → KernelState → Result (Unit {0}) KernelFault → KernelState → Type 0
 EndsAt d least last (Ok _) new = (new ≡ last) × (is_none (find (must_move last) d.targets.entries) ≡ true)
-EndsAt d least last (Err fault) new = (fault ≡ Failed) × (new ≡ failed last) × ((w : Write) × MayFollow d least last w)
+EndsAt d least last (Err fault) new = (fault ≡ Failed) × ((w : Write) × MayFollow d least last w × (new ≡ missed (Some w) last))
 
 -- the writes of a direct hand-over up to its end, or to one that fails: each is one by which an entry takes its free target, or
 -- the one that a single step makes
@@ -50,7 +50,7 @@ pub record FinishesDirectly (d : Directed) (least : Least) (old : KernelState) (
 -- the writes that it asks the kernel for, in order, and the one that fails among them
 abbrev pub asked_for : (d : Directed) (least : Least) (old : KernelState) (r : Result (Unit {0}) KernelFault) (new : KernelState) → FinishesDirectly d least old r new → List Write
 asked_for d least old (Ok _) new f = f.writes
-asked_for d least old (Err fault) new f = f.writes ++ f.ends.2.0 ∷ []
+asked_for d least old (Err fault) new f = f.writes ++ f.ends.1.0 ∷ []
 
 -- and each squeezes only whoever was stuck in a ring when it was made
 pub record SqueezesInRings (d : Directed) (least : Least) (old : KernelState) (r : Result (Unit {0}) KernelFault) (new : KernelState) : Type 0 where

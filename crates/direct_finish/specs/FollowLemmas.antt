@@ -50,8 +50,9 @@ module _ (P : KernelState → Write → Type 0) where
     mid = s.mid;
     made = written_then old mid s.mid a s.made;
     fault_is = s.fault_is;
-    is = s.is;
+    tried = s.tried;
     wanted = s.wanted;
+    is = s.is;
   }
 
   pub same_written : (old new : KernelState) → new ≡ old → HasWritten P old new

@@ -1,12 +1,12 @@
 -- What part of a hand-over's writes leaves. No public clause cites this module.
-use Rattle.std.specs.Prelude.{◌≡◌, ◌+◌, ◌≤◌, Bool, true, false, List, find, is_none, Result, Ok, Err}
+use Rattle.std.specs.Prelude.{◌≡◌, ◌+◌, ◌≤◌, Bool, true, false, List, find, Some, is_none, Result, Ok, Err}
 use Rattle.kernel_model.specs.declared.KernelFault.{KernelFault}
 use Rattle.kernel_model.specs.declared.KernelFault.TheVariants.{Failed}
-use Rattle.kernel_model.specs.KernelState.{KernelState, failed}
+use Rattle.kernel_model.specs.KernelState.{KernelState}
 use Rattle.apply_plan.specs.declared.scan.Write.{Write}
 use Rattle.apply_plan.specs.Holders.{IsSafe}
 use Rattle.apply_plan.specs.Targets.{Targets, holders_of, ArePlaced}
-use Rattle.apply_plan.specs.DueWrite.{must_move}
+use Rattle.apply_plan.specs.DueWrite.{must_move, missed}
 use Rattle.apply_plan.specs.MayWrite.{left_directly}
 use Rattle.direct_finish.specs.declared.bounds.Bounds.{Bounds}
 use Rattle.direct_finish.specs.FinishesDirectly.{Follow, after}
@@ -23,8 +23,9 @@ pub record Stops (P : KernelState → Write → Type 0) (old : KernelState) (fau
   pub mid : KernelState
   pub made : HasWritten P old mid
   pub fault_is : fault ≡ Failed
-  pub is : new ≡ failed mid
-  pub wanted : (w : Write) × P mid w
+  pub tried : Write
+  pub wanted : P mid tried
+  pub is : new ≡ missed (Some tried) mid
 
 -- some such writes, up to one that failed
 abbrev pub Leaves : {A : Type 0} → (KernelState → Write → Type 0) → KernelState → Result A KernelFault → KernelState → Type 0

@@ -10,3 +10,5 @@ pub mod FollowersLeave
 pub mod FollowerLemmas
 pub mod SeldomWritten
 pub mod SeldomLemmas
+pub mod FinishesTold
+pub mod FinishesToldLemmas

@@ -11,7 +11,7 @@ use Rattle.cpuset_tree.specs.Groups.{same_group, requested_cpus}
 use Rattle.cpuset_tree.specs.GroupLemmas.{same_group_sym, same_group_itself, same_group-equal}
 use Rattle.proctable.specs.Processes.{is_alive}
 use Rattle.kernel_model.specs.declared.KernelFault.{KernelFault}
-use Rattle.kernel_model.specs.KernelState.{KernelState}
+use Rattle.kernel_model.specs.KernelState.{KernelState, writes}
 use Rattle.apply_plan.specs.declared.Entry.{Entry}
 use Rattle.apply_plan.specs.declared.scan.Write.{Write}
 use Rattle.apply_plan.specs.Holders.{Pairwise}
@@ -68,7 +68,7 @@ module _ (d : Directed) (valid : IsHandover d.targets) (least : Least) (serves :
   all_follow : (old : KernelState) (r : Result (Unit {0}) KernelFault) (new : KernelState) (f : FinishesDirectly d least old r new)
       → Followed old (asked_for d least old r new f)
   all_follow old (Ok _) new f = f.follow
-  all_follow old (Err fault) new f = follow_on (MayFollow d least) f.writes (f.ends.2.0 ∷ []) old f.follow (f.ends.2.1, tt)
+  all_follow old (Err fault) new f = follow_on (MayFollow d least) f.writes (f.ends.1.0 ∷ []) old f.follow (f.ends.1.1, tt)
 
   module _ (k : KernelState) (w : Write) (placed : ArePlaced k entries) (follows : MayFollow d least k w) where
     abbrev next : KernelState
@@ -287,19 +287,19 @@ module _ (d : Directed) (valid : IsHandover d.targets) (least : Least) (serves :
     }
 
   -- the kernel counts each of them
-  counted : (ws : List Write) (k : KernelState) → (after k ws).writes ≡ k.writes + length ws
+  counted : (ws : List Write) (k : KernelState) → writes (after k ws) ≡ writes k + length ws
   counted [] k = omega arith
   counted (w ∷ later) k =
-      let rest : (after k (w ∷ later)).writes ≡ (written k (Some w)).writes + length later = counted later (written k (Some w)) in
-      let one : (written k (Some w)).writes ≡ k.writes + 1 = refl in
+      let rest : writes (after k (w ∷ later)) ≡ writes (written k (Some w)) + length later = counted later (written k (Some w)) in
+      let one : writes (written k (Some w)) ≡ writes k + 1 = omega arith in
       omega (arith, rest, one)
 
   all_counted : (old : KernelState) (r : Result (Unit {0}) KernelFault) (new : KernelState) (f : FinishesDirectly d least old r new)
-      → new.writes ≡ old.writes + length (asked_for d least old r new f)
-  all_counted old (Ok _) new f = ap (λ (k : KernelState). k.writes) f.ends.0 ∙ counted f.writes old
+      → writes new ≡ writes old + length (asked_for d least old r new f)
+  all_counted old (Ok _) new f = ap writes f.ends.0 ∙ counted f.writes old
   all_counted old (Err fault) new f =
-      ap (λ (k : KernelState). k.writes) f.ends.1
-      ∙ ap (λ (k : KernelState). k.writes) (sym (after_both (MayFollow d least) f.writes (f.ends.2.0 ∷ []) old)) ∙ counted (f.writes ++ f.ends.2.0 ∷ []) old
+      ap writes f.ends.1.2
+      ∙ ap writes (sym (after_both (MayFollow d least) f.writes (f.ends.1.0 ∷ []) old)) ∙ counted (f.writes ++ f.ends.1.0 ∷ []) old
 
 pub finishes_write_seldom : FinishesWriteSeldom
 finishes_write_seldom d least old r new valid serves placed f = record {

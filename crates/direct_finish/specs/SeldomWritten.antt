@@ -6,7 +6,7 @@ use Rattle.cpu_set.specs.Ids.{Ids}
 use Rattle.cpuset_tree.specs.declared.Group.{Group}
 use Rattle.cpuset_tree.specs.Groups.{same_group}
 use Rattle.kernel_model.specs.declared.KernelFault.{KernelFault}
-use Rattle.kernel_model.specs.KernelState.{KernelState}
+use Rattle.kernel_model.specs.KernelState.{KernelState, writes}
 use Rattle.apply_plan.specs.declared.Entry.{Entry}
 use Rattle.apply_plan.specs.declared.scan.Write.{Write}
 use Rattle.apply_plan.specs.Targets.{IsHandover, ArePlaced}
@@ -18,17 +18,17 @@ use Rattle.direct_finish.specs.FinishesDirectly.{FinishesDirectly, asked_for}
 
 -- one that holds its target is not written. One that lets nothing go but reserved CPUs, as it only gets more, is written once at
 -- most. So is one that only lets go. No other is written more than twice.
-pub record IsSeldomWritten (k : KernelState) (reserved : Ids) (writes : List Write) (e : Entry) : Type 0 where
-  pub stays : held k e ≡ e.target → times_written e.group writes ≡ 0
-  pub grows : set.is_subset (set.difference (held k e) e.target) reserved ≡ true → times_written e.group writes ≤ 1
-  pub shrinks : set.is_subset e.target (held k e) ≡ true → times_written e.group writes ≤ 1
-  pub most : times_written e.group writes ≤ 2
+pub record IsSeldomWritten (k : KernelState) (reserved : Ids) (these : List Write) (e : Entry) : Type 0 where
+  pub stays : held k e ≡ e.target → times_written e.group these ≡ 0
+  pub grows : set.is_subset (set.difference (held k e) e.target) reserved ≡ true → times_written e.group these ≤ 1
+  pub shrinks : set.is_subset e.target (held k e) ≡ true → times_written e.group these ≤ 1
+  pub most : times_written e.group these ≤ 2
 
 -- so it is with each container, no group of anybody else is written, and they are all that the kernel counted
-pub record WritesSeldom (d : Directed) (old : KernelState) (writes : List Write) (new : KernelState) : Type 0 where
-  pub all : new.writes ≡ old.writes + length writes
-  pub each : AllByRecursion (IsSeldomWritten old d.targets.reserved writes) d.targets.entries
-  pub others : (g : Group) → AllByRecursion (λ e. same_group e.group g ≡ false) d.targets.entries → times_written g writes ≡ 0
+pub record WritesSeldom (d : Directed) (old : KernelState) (these : List Write) (new : KernelState) : Type 0 where
+  pub all : writes new ≡ writes old + length these
+  pub each : AllByRecursion (IsSeldomWritten old d.targets.reserved these) d.targets.entries
+  pub others : (g : Group) → AllByRecursion (λ e. same_group e.group g ≡ false) d.targets.entries → times_written g these ≡ 0
 
 -- so a hand-over writes that is made at once, the write that fails among the others
 abbrev pub FinishesWriteSeldom : Type 0

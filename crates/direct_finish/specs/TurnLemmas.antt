@@ -3,11 +3,11 @@ use Rattle.std.proofs.Common.{◌≡◌, ◌+◌, ◌≤◌, true, false, refl, 
 use Rattle.std.proofs.lemmas.Bool.{false≢true}
 use Rattle.std.specs.Prelude.{cond, find, Option, Some, None, is_none, is_some, Ok, Err}
 use Rattle.kernel_model.specs.declared.KernelFault.{KernelFault}
-use Rattle.kernel_model.specs.KernelState.{KernelState, failed}
+use Rattle.kernel_model.specs.KernelState.{KernelState}
 use Rattle.apply_plan.specs.declared.scan.Write.{Write}
 use Rattle.apply_plan.specs.declared.Progress.{Progress}
 use Rattle.apply_plan.specs.Targets.{IsHandover, ArePlaced}
-use Rattle.apply_plan.specs.DueWrite.{must_move, written}
+use Rattle.apply_plan.specs.DueWrite.{must_move, written, missed}
 use Rattle.apply_plan.specs.MayWrite.{left_directly}
 use Rattle.apply_plan.specs.Directed.{Directed, Least, Serves}
 use Rattle.apply_plan.specs.DirectWrite.{due_directly, StepsDirectly, LowersDirectly}
@@ -30,8 +30,9 @@ module _ (d : Directed) (least : Least) where
     mid = s.mid;
     made = taken_follow old s.mid s.made;
     fault_is = s.fault_is;
+    tried = s.tried;
+    wanted = inl s.wanted;
     is = s.is;
-    wanted = (s.wanted.0, inl s.wanted.1);
   }
 
   -- a single step makes one such write, or none
@@ -42,16 +43,10 @@ module _ (d : Directed) (least : Least) where
     by (Some w) is = one_written (MayFollow d least) old w (inr is)
 
   pub step_stops : (old new : KernelState) (fault : KernelFault) → StepsDirectly d least old (Err fault) new → Stops (MayFollow d least) old fault new
-  step_stops old new fault s = record {
-    mid = old;
-    made = none_written (MayFollow d least) old;
-    fault_is = s.0;
-    is = s.1;
-    wanted = by (due_directly d least old) refl s.2;
-  } where
-    by : (o : Option Write) → due_directly d least old ≡ o → is_some o ≡ true → (w : Write) × MayFollow d least old w
-    by None is some = absurd (false≢true some)
-    by (Some w) is some = (w, inr is)
+  step_stops old new fault s = by (due_directly d least old) refl s.2 s.1 where
+    by : (o : Option Write) → due_directly d least old ≡ o → is_some o ≡ true → new ≡ missed o old → Stops (MayFollow d least) old fault new
+    by None is some missing = absurd (false≢true some)
+    by (Some w) is some missing = record { mid = old; made = none_written (MayFollow d least) old; fault_is = s.0; tried = w; wanted = inr is; is = missing }
 
   -- where somebody must move, it lowers what is left
   pub step_falls : (valid : IsHandover d.targets) (serves : Serves d least) (old new : KernelState) (answer : Progress) → ArePlaced old d.targets.entries
@@ -75,5 +70,8 @@ module _ (d : Directed) (least : Least) where
   stopped old new fault s = record {
     writes = s.made.writes;
     follow = s.made.follow;
-    ends = (s.fault_is, s.is ∙ ap failed s.made.is, (s.wanted.0, subst (λ (k : KernelState). MayFollow d least k s.wanted.0) s.made.is s.wanted.1));
+    ends = (
+      s.fault_is,
+      (s.tried, subst (λ (k : KernelState). MayFollow d least k s.tried) s.made.is s.wanted, s.is ∙ ap (missed (Some s.tried)) s.made.is),
+    );
   }

@@ -1,6 +1,6 @@
 //! All writes of a direct hand-over, turn by turn.
 ghost use Rattle.std.specs.Prelude.{◌≡◌, ◌+◌, ◌*◌, ◌≤◌, length, IsOk, IfOk};
-ghost use Rattle.kernel_model.specs.KernelState.{KernelState};
+ghost use Rattle.kernel_model.specs.KernelState.{KernelState, writes};
 ghost use Rattle.kernel_model.specs.Cases.{rise};
 ghost use Rattle.apply_plan.specs.Holders.{IsSafe};
 ghost use Rattle.apply_plan.specs.Targets.{holders_of, ArePlaced};
@@ -81,7 +81,7 @@ fn finish_body<K: Kernel, C: Cores>(
 /// have served other hand-overs before. One that has room for fewer entries serves too, and costs more looks.
 ///
 /// # Errors
-/// `Failed` where a write failed: it is counted, and no other was made after it; the hand-over may go on.
+/// `Failed` where a write failed: it is told and counted, and no other was made after it; the hand-over may go on.
 pub fn finish_directly<K: Kernel, C: Cores>(
     handover: &mut DirectHandover,
     kernel: &mut K,
@@ -103,7 +103,7 @@ pub fn finish_directly<K: Kernel, C: Cores>(
     // It makes at most one writing call for each write that fewer are left, and one for a failure.
     ensures made { SpendsDirectly handover.old (K.state kernel.old) (rise result) (K.state kernel.new) }
     // That is at most two for each entry, and the one that failed.
-    ensures few { (K.state kernel.new).writes ≤ (K.state kernel.old).writes + 2 * length handover.old.targets.entries
+    ensures few { writes (K.state kernel.new) ≤ writes (K.state kernel.old) + 2 * length handover.old.targets.entries
         + rise result }
     // Each container requests none but what it did at first, its target, reserved CPUs and those that it is allowed. It
     // keeps all of its target that it requested at first.

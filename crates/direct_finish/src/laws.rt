@@ -7,6 +7,7 @@ ghost use Rattle.apply_plan.specs.DirectWrite.{due_directly};
 ghost use Rattle.apply_plan.specs.DirectWorked.{moving_to, whole, gives};
 ghost use Rattle.apply_plan.specs.Worked.{both_live, write};
 ghost use Rattle.direct_finish.specs.FinishesDirectly.{FinishesDirectly};
+ghost use Rattle.direct_finish.specs.FinishesTold.{FinishesAreTold};
 ghost use Rattle.direct_finish.specs.FollowersLeave.{FollowersLeave, EachStepFollows};
 ghost use Rattle.direct_finish.specs.SeldomWritten.{FinishesWriteSeldom, FinishesWriteOnce};
 
@@ -18,11 +19,14 @@ ghost use Rattle.direct_finish.specs.SeldomWritten.{FinishesWriteSeldom, Finishe
 /// A container that holds its target is not written. One that only gets more CPUs, or only lets go, is written once at
 /// most, and no other more than twice (`seldom`). Where nobody for whom others wait stands in a ring, each is written
 /// once at most (`once`).
+///
+/// All together they ask the kernel for just their writes, one after another, and for the one that failed (`told`).
 pub fn each_write()
     ensures leaves { FollowersLeave }
     ensures steps { EachStepFollows }
     ensures seldom { FinishesWriteSeldom }
     ensures once { FinishesWriteOnce }
+    ensures told { FinishesAreTold }
 {}
 
 /// Small direct hand-overs of two containers, CPU 0 reserved, each row evaluated from what they request then.

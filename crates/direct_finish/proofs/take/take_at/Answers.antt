@@ -33,8 +33,9 @@ returns-in_err-write-clause-leaves g c =
       mid = old;
       made = none_written (TakesFree h) old;
       fault_is = c.in_err-write.ensures.0;
+      tried = write_of e e.target;
+      wanted = takes_free h c.requires.valid old c.args.place e inside c.index-entries-place.is (c.may_take.ensures c.if-not-may_take.false);
       is = c.in_err-write.ensures.1;
-      wanted = (write_of e e.target, takes_free h c.requires.valid old c.args.place e inside c.index-entries-place.is (c.may_take.ensures c.if-not-may_take.false));
     })
 
 pub returns-clause-leaves : goal.returns-clause-leaves
