@@ -10,11 +10,11 @@ use Rattle.cpuset_tree.specs.declared.Group.{Group}
 use Rattle.cpuset_tree.specs.Groups.{has_group}
 use Rattle.kernel_model.specs.declared.KernelFault.{KernelFault}
 use Rattle.kernel_model.specs.declared.KernelFault.TheVariants.{NoPids}
+use Rattle.kernel_model.specs.Trace.{EndedGroup}
 use Rattle.kernel_model.specs.KernelState.{KernelState}
 use Rattle.kernel_model.specs.Refusals.{end_refusal}
 use Rattle.kernel_model.specs.RefusalLemmas.{calls_are_free}
-use Rattle.kernel_model.specs.Cases.{EndsGroup, RemovesGroup}
-use Rattle.proctable.specs.TableChanges.{ended_in}
+use Rattle.kernel_model.specs.Cases.{EndsGroup, RemovesGroup, EndsGroupOf}
 use Rattle.demand.specs.declared.Demand.{Demand as Asked}
 use Rattle.faults.specs.declared.OrMemory.{OrMemory}
 use Rattle.faults.specs.declared.OrMemory.TheVariants.{Memory, Fault}
@@ -89,7 +89,7 @@ module _ (n now : NodeState) (is : n ≡ now) (id : List ℕ) where
       pub kill_refused : IsNode n → (fault : KernelFault) → EndsGroup n.kernel c.group (Err fault) new → Kills now id signal (Err (Kernel fault)) (record n { kernel = new })
       kill_refused h fault e =
           let free : end_refusal n.kernel c.group ≡ None = ((calls_are_free n.kernel).end c.group).1 (group_there n h id c found) in
-          let failed = only_failed {A = Unit {0}} (end_refusal n.kernel c.group) (λ _ k. k ≡ record n.kernel { table = ended_in n.kernel.table c.group }) n.kernel new fault free e in
+          let failed = only_failed {A = Unit {0}} (EndedGroup c.group) (end_refusal n.kernel c.group) (EndsGroupOf n.kernel c.group) n.kernel new fault free e in
           subst (λ (m : NodeState). Kills m id signal (Err (Kernel fault)) (record n { kernel = new })) is
           (failed, record { container = c; ending = ending; there = found; live = live; ended = e; is = refl })
 

@@ -9,7 +9,6 @@ use Rattle.std.specs.Str.{bytes_eq}
 use Rattle.cpuset_tree.specs.declared.Group.{Group}
 use Rattle.cpuset_tree.specs.TreeState.{GroupEntry}
 use Rattle.cpuset_tree.specs.Groups.{same_group, entry_of, has_group, is_root, is_root_entry, has_children, root_of, requested_cpus, cpus_in}
-use Rattle.cpuset_tree.specs.TreeChanges.{without_group}
 use Rattle.cpuset_tree.specs.GroupLemmas.{same_group-equal, same_group_itself}
 use Rattle.cpuset_tree.specs.TreeLemmas.{root_is_there, no_parent_no_children, root_among-without}
 use Rattle.proctable.specs.declared.Process.{Process}
@@ -17,9 +16,10 @@ use Rattle.proctable.specs.Processes.{process_of, is_alive}
 use Rattle.proctable.specs.TableLemmas.{live_belong, none_counted_where_none}
 use Rattle.kernel_model.specs.declared.KernelFault.{KernelFault}
 use Rattle.kernel_model.specs.declared.KernelFault.TheVariants.{Failed}
+use Rattle.kernel_model.specs.Trace.{RemovedGroup}
 use Rattle.kernel_model.specs.KernelState.{KernelState}
 use Rattle.kernel_model.specs.Refusals.{remove_refusal}
-use Rattle.kernel_model.specs.Cases.{RemovesGroup}
+use Rattle.kernel_model.specs.Cases.{RemovesGroup, RemovesGroupOf}
 use Rattle.kernel_model.specs.Laws.{RemoveLeaves}
 use Rattle.kernel_model.specs.KernelLemmas.{each_case_keeps, writes_leave_groups, writes_keep_processes}
 use Rattle.kernel_model.specs.RefusalLemmas.{calls_are_free}
@@ -83,7 +83,7 @@ module _ (parent : Group) (id : List ℕ) (xs : List (List ℕ × ContainerState
     free = ((calls_are_free old).remove c.group).1 (there, below_root, childless, none_counted_where_none old.table c.group h.kernel.table none_in)
 
     pub delete_failed : (new : KernelState) (fault : KernelFault) → RemovesGroup old c.group (Err fault) new → fault ≡ Failed
-    delete_failed new fault r = only_failed {A = Unit {0}} (remove_refusal old c.group) (λ _ k. k ≡ record old { tree = without_group old.tree c.group }) old new fault free r
+    delete_failed new fault r = only_failed {A = Unit {0}} (RemovedGroup c.group) (remove_refusal old c.group) (RemovesGroupOf old c.group) old new fault free r
 
     -- what holds of all containers holds of the others
     left_hold : Holds old parent rest

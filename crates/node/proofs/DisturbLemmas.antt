@@ -13,7 +13,7 @@ use Rattle.cpuset_tree.specs.Groups.{same_group, requested_cpus}
 use Rattle.cpuset_tree.specs.GroupLemmas.{same_group_sym, same_group_itself}
 use Rattle.proctable.specs.Processes.{is_alive}
 use Rattle.kernel_model.specs.declared.KernelFault.{KernelFault}
-use Rattle.kernel_model.specs.KernelState.{KernelState}
+use Rattle.kernel_model.specs.KernelState.{KernelState, writes}
 use Rattle.apply_plan.specs.declared.Entry.{Entry}
 use Rattle.apply_plan.specs.declared.Progress.{Progress}
 use Rattle.apply_plan.specs.declared.Progress.TheVariants.{More}
@@ -162,10 +162,10 @@ module _ (h : Targets) (valid : IsHandover h) (old : KernelState) (placed : AreP
 -- ---- all steps
 
 -- the writes of steps: as many as the kernel counted, each of an entry, and no entry has more than it waits for
-pub record Little (o : Ongoing) (old : KernelState) (writes : List Write) (new : KernelState) : Type 0 where
-  pub all : new.writes ≡ old.writes + length writes
-  pub each : AllByRecursion (λ a. times_written a.group writes ≤ writes_of old o.targets.reserved a) o.targets.entries
-  pub others : (g : Group) → AllByRecursion (λ a. same_group a.group g ≡ false) o.targets.entries → times_written g writes ≡ 0
+pub record Little (o : Ongoing) (old : KernelState) (these : List Write) (new : KernelState) : Type 0 where
+  pub all : writes new ≡ writes old + length these
+  pub each : AllByRecursion (λ a. times_written a.group these ≤ writes_of old o.targets.reserved a) o.targets.entries
+  pub others : (g : Group) → AllByRecursion (λ a. same_group a.group g ≡ false) o.targets.entries → times_written g these ≡ 0
 
 module _ (law : OrdersLeave) (o : Ongoing) (in_turn : o.order ≡ InTurn) where
   module _ (old : NodeState) (h : IsNode old) (was : old.ongoing ≡ Some o) where
@@ -182,7 +182,7 @@ module _ (law : OrdersLeave) (o : Ongoing) (in_turn : o.order ≡ InTurn) where
         (due_is old.kernel o.targets.reserved o.targets.entries)
 
     -- one write, and none after it
-    last_little : (d : Option Write) → d ≡ due o.targets old.kernel → (new : KernelState) → new.writes ≡ old.kernel.writes + made_by_step o.targets old.kernel
+    last_little : (d : Option Write) → d ≡ due o.targets old.kernel → (new : KernelState) → writes new ≡ writes old.kernel + made_by_step o.targets old.kernel
         → Little o old.kernel (before d []) new
     last_little d is new made = record {
       all = let long : length (before d []) ≡ cond (is_some d) 1 0 + 0 = length_before d [] in
@@ -203,7 +203,7 @@ module _ (law : OrdersLeave) (o : Ongoing) (in_turn : o.order ≡ InTurn) where
 
     -- one write before others
     first_little : (d : Option Write) → d ≡ due o.targets old.kernel → (mid : KernelState) → mid ≡ written old.kernel (due o.targets old.kernel)
-        → mid.writes ≡ old.kernel.writes + made_by_step o.targets old.kernel → (later : List Write) (new : KernelState) → Little o mid later new
+        → writes mid ≡ writes old.kernel + made_by_step o.targets old.kernel → (later : List Write) (new : KernelState) → Little o mid later new
         → Little o old.kernel (before d later) new
     first_little d is mid at made later new rest = record {
       all = let long : length (before d later) ≡ cond (is_some d) 1 0 + length later = length_before d later in
@@ -231,9 +231,9 @@ module _ (law : OrdersLeave) (o : Ongoing) (in_turn : o.order ≡ InTurn) where
   by_turn old r new s = subst (λ (order : Order). StepsBy order old.machine o old.kernel r new) (sym in_turn) s
 
   -- how many writing calls a step in turn made
-  made_one : (old : NodeState) (new : KernelState) → new.writes ≡ old.kernel.writes + made_by o.order old.machine o old.kernel
-      → new.writes ≡ old.kernel.writes + made_by_step o.targets old.kernel
-  made_one old new made = subst (λ (order : Order). new.writes ≡ old.kernel.writes + made_by order old.machine o old.kernel) in_turn made
+  made_one : (old : NodeState) (new : KernelState) → writes new ≡ writes old.kernel + made_by o.order old.machine o old.kernel
+      → writes new ≡ writes old.kernel + made_by_step o.targets old.kernel
+  made_one old new made = subst (λ (order : Order). writes new ≡ writes old.kernel + made_by order old.machine o old.kernel) in_turn made
 
   -- the last step
   ended_little : (old : NodeState) (h : IsNode old) (was : old.ongoing ≡ Some o) (r : Result Progress KernelFault) (new : KernelState) → Steps o.targets old.kernel r new
@@ -303,7 +303,7 @@ kept_is_target reserved target cpus some sub apart = kept_some reserved target c
       ∙ one (set.contains cpus q) (set.contains target q) (set.contains reserved q) (is_subset-contains target cpus sub q)
       (λ gone in_reserved. apart q (contains-difference cpus target q ∙ gone) in_reserved))
 
-module _ (old : NodeState) (h : IsNode old) (sets : List Ids) (could : CouldHave old sets) (writes : List Write) where
+module _ (old : NodeState) (h : IsNode old) (sets : List Ids) (could : CouldHave old sets) (these : List Write) where
   -- a live one requests some CPUs, and is to have some
   record HasBoth (e : Entry) : Type 0 where
     target : is_empty e.target ≡ false
@@ -317,8 +317,8 @@ module _ (old : NodeState) (h : IsNode old) (sets : List Ids) (could : CouldHave
       (of_all_map holder_of (HasSome old.kernel (requested_cpus old.kernel.tree)) (plan_entries old sets)
       (entries_safe old.kernel old.kernel.reserved (plan_entries old sets) (owners_of old.containers) ongoing.of h.holds.safe).some)
 
-  one_little : (p : Target) → HasBoth (entry_of p) → times_written p.0.1.group writes ≤ writes_of old.kernel old.machine.reserved (entry_of p)
-      → IsLittleWritten old.kernel old.machine.reserved writes p
+  one_little : (p : Target) → HasBoth (entry_of p) → times_written p.0.1.group these ≤ writes_of old.kernel old.machine.reserved (entry_of p)
+      → IsLittleWritten old.kernel old.machine.reserved these p
   one_little p both most = record {
     stays = λ is. (let none : writes_of old.kernel old.machine.reserved (entry_of p) ≡ 0 = waits_none old.kernel old.machine.reserved (entry_of p) both.target is in omega (arith, most, none));
     grows = λ sub. (let one : writes_of old.kernel old.machine.reserved (entry_of p) ≤ 1 = grown sub (is_alive old.kernel.table p.0.1.pid) refl in omega (arith, most, one));
@@ -338,25 +338,25 @@ module _ (old : NodeState) (h : IsNode old) (sets : List Ids) (could : CouldHave
         (ap (λ a. a && not (is_same (held old.kernel (entry_of p)) p.1)) dead) in
         omega (arith, none)
 
-  pub writes_little : (new : NodeState) → Little (opened InTurn old sets) old.kernel writes new.kernel → WritesLittle old sets writes new
+  pub writes_little : (new : NodeState) → Little (opened InTurn old sets) old.kernel these new.kernel → WritesLittle old sets these new
   writes_little new l = record {
     all = l.all;
-    each = all_map2 (λ p. HasBoth (entry_of p)) (λ p. times_written p.0.1.group writes ≤ writes_of old.kernel old.machine.reserved (entry_of p))
-        (IsLittleWritten old.kernel old.machine.reserved writes) one_little (plan_targets old sets)
+    each = all_map2 (λ p. HasBoth (entry_of p)) (λ p. times_written p.0.1.group these ≤ writes_of old.kernel old.machine.reserved (entry_of p))
+        (IsLittleWritten old.kernel old.machine.reserved these) one_little (plan_targets old sets)
         (of_all_map entry_of HasBoth (plan_targets old sets) have_both)
-        (of_all_map entry_of (λ a. times_written a.group writes ≤ writes_of old.kernel old.machine.reserved a) (plan_targets old sets) l.each);
+        (of_all_map entry_of (λ a. times_written a.group these ≤ writes_of old.kernel old.machine.reserved a) (plan_targets old sets) l.each);
     others = λ g apart. l.others g (all_of_map entry_of (λ a. same_group a.group g ≡ false) (plan_targets old sets) apart);
   }
 
   -- directly
-  one_seldom : (p : Target) → IsSeldomWritten old.kernel old.machine.reserved writes (entry_of p) → IsLittleWritten old.kernel old.machine.reserved writes p
+  one_seldom : (p : Target) → IsSeldomWritten old.kernel old.machine.reserved these (entry_of p) → IsLittleWritten old.kernel old.machine.reserved these p
   one_seldom p s = record { stays = s.stays; grows = s.grows; shrinks = λ sub apart. s.shrinks sub; most = s.most }
 
-  pub seldom_is_little : (new : NodeState) → WritesSeldom (directed_of (opened Directly old sets)) old.kernel writes new.kernel → WritesLittle old sets writes new
+  pub seldom_is_little : (new : NodeState) → WritesSeldom (directed_of (opened Directly old sets)) old.kernel these new.kernel → WritesLittle old sets these new
   seldom_is_little new s = record {
     all = s.all;
-    each = all_map (λ p. IsSeldomWritten old.kernel old.machine.reserved writes (entry_of p)) (IsLittleWritten old.kernel old.machine.reserved writes) one_seldom (plan_targets old sets)
-        (of_all_map entry_of (IsSeldomWritten old.kernel old.machine.reserved writes) (plan_targets old sets) s.each);
+    each = all_map (λ p. IsSeldomWritten old.kernel old.machine.reserved these (entry_of p)) (IsLittleWritten old.kernel old.machine.reserved these) one_seldom (plan_targets old sets)
+        (of_all_map entry_of (IsSeldomWritten old.kernel old.machine.reserved these) (plan_targets old sets) s.each);
     others = λ g apart. s.others g (all_of_map entry_of (λ a. same_group a.group g ≡ false) (plan_targets old sets) apart);
   }
 

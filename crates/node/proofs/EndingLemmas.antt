@@ -32,7 +32,7 @@ use Rattle.node.specs.Updates.{Updates}
 use Rattle.node.specs.Calls.{Ended, Places, Starts, Kills, Deletes}
 use Rattle.node.specs.Rebalance.{Begins, StepsOn, Writes, Rebalances}
 use Rattle.node.specs.Machine.{Event, Step, Run}
-use Rattle.node.specs.Machine.Event.{Create, Adopt, Update, Start, Kill, Delete, Rebalance, Begin, StepOn, WriteOn, Ask, Fork, Exit, Offline, Online}
+use Rattle.node.specs.Machine.Event.{Create, Adopt, Update, Start, Kill, Delete, Rebalance, Begin, StepOn, WriteOn, MissOn, Ask, Fork, Exit, Offline, Online}
 use Rattle.node.specs.Ending.{step_in, steps_in, IsMore, HandoversEnd}
 use Rattle.node.proofs.OrderLemmas.{OrdersLeave, CallsLeave, FewBy}
 use Rattle.node.proofs.StepLemmas.{its_steps, its_writes, open_now, leaves, wrote}
@@ -139,6 +139,7 @@ module _ (law : OrdersLeave) (ends : CallsLeave) (o : Ongoing) (old : NodeState)
     goes (Begin order answer) s more = begin_goes order answer s
     goes (StepOn answer) s more = stepped (subst (λ (r : Result Progress NodeFault). StepsOn old r new) more s)
     goes WriteOn s more = wrote_one s
+    goes (MissOn fault) s more = absurd more
     goes (Ask question) s more = unchanged s.1
     goes (Fork parent answer) s more = called (ap (λ (n : NodeState). n.ongoing) s.1) (call.Fork parent) tt (reply_of reply.Pid answer) (answer, refl, s.0)
     goes (Exit pid answer) s more =

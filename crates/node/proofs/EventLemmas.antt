@@ -9,6 +9,7 @@ use Rattle.cpuset_tree.specs.Groups.{same_group}
 use Rattle.proctable.specs.TableChanges.{ends_with}
 use Rattle.kernel_model.specs.declared.KernelFault.{KernelFault}
 use Rattle.kernel_model.specs.declared.KernelFault.TheVariants.{Failed}
+use Rattle.kernel_model.specs.Trace.{WritingCall}
 use Rattle.kernel_model.specs.KernelState.{KernelState}
 use Rattle.kernel_model.specs.Cases.{Writes, RemovesGroup, EndsGroup, Forks, Exits, GoesOffline, ComesOnline}
 use Rattle.kernel_model.specs.CaseLemmas.{Writes-answers}
@@ -78,9 +79,9 @@ abbrev OnlyFailed : {A : Type 0} → Result A KernelFault → KernelState → Ty
 OnlyFailed (Ok value) k = Unit {0}
 OnlyFailed (Err fault) k = fault ≡ Failed
 
-pub only_failed : {A : Type 0} (refusal : Option KernelFault) (Does : A → KernelState → Type 0) (old new : KernelState) (fault : KernelFault) → refusal ≡ None
-    → Writes refusal Does old (Err fault) new → fault ≡ Failed
-only_failed refusal Does old new fault free w =
-    Writes-answers refusal Does old (λ r k. OnlyFailed r k) (λ value k none does. tt) refl
+pub only_failed : {A : Type 0} (call : Result A KernelFault → WritingCall) (refusal : Option KernelFault) (Does : A → KernelState → Type 0) (old new : KernelState) (fault : KernelFault) → refusal ≡ None
+    → Writes call refusal Does old (Err fault) new → fault ≡ Failed
+only_failed call refusal Does old new fault free w =
+    Writes-answers refusal Does old call (λ r k. OnlyFailed r k) (λ value k none does. tt) refl
     (λ f other against. absurd (let e : None ≡ Some f = sym free ∙ against in let no : ⊥ = cc e in no))
     (Err fault) new w

@@ -9,7 +9,7 @@ use Rattle.cpu_set.specs.Ids.{Ids, IsDisjoint}
 use Rattle.cpuset_tree.specs.declared.Group.{Group}
 use Rattle.cpuset_tree.specs.Effective.{effective_cpus}
 use Rattle.proctable.specs.Processes.{is_alive}
-use Rattle.kernel_model.specs.KernelState.{KernelState}
+use Rattle.kernel_model.specs.KernelState.{KernelState, writes}
 use Rattle.demand.specs.declared.Kind.{Kind}
 use Rattle.demand.specs.declared.Kind.TheVariants.{Pinned, Shared}
 use Rattle.demand.specs.declared.Demand.{Demand}
@@ -252,11 +252,11 @@ module _ (order : Order) (old : NodeState) (h : IsNode old) (effects : TargetsTa
 
 -- how many writes a hand-over to these sets made
 made_those : (order : Order) (old : NodeState) (sets : List Ids) (new : NodeState)
-    → (order ≡ InTurn → new.kernel.writes ≡ old.kernel.writes + writes_to_come (opened order old sets).targets old.kernel)
-    → new.kernel.writes ≤ old.kernel.writes + left_of (opened order old sets) old.kernel → sets ≡ effective_sets new.kernel new.containers → MakesThose order old new
-made_those InTurn old sets new exact most same = exact refl ∙ ap (λ (ss : List Ids). old.kernel.writes + writes_to_come (opened InTurn old ss).targets old.kernel) same
+    → (order ≡ InTurn → writes new.kernel ≡ writes old.kernel + writes_to_come (opened order old sets).targets old.kernel)
+    → writes new.kernel ≤ writes old.kernel + left_of (opened order old sets) old.kernel → sets ≡ effective_sets new.kernel new.containers → MakesThose order old new
+made_those InTurn old sets new exact most same = exact refl ∙ ap (λ (ss : List Ids). writes old.kernel + writes_to_come (opened InTurn old ss).targets old.kernel) same
 made_those Directly old sets new exact most same =
-    subst (λ (ss : List Ids). new.kernel.writes ≤ old.kernel.writes + left_directly (opened Directly old ss).targets old.kernel) same most
+    subst (λ (ss : List Ids). writes new.kernel ≤ writes old.kernel + left_directly (opened Directly old ss).targets old.kernel) same most
 
 -- after each of the calls, whatever it answers
 module _ (order : Order) (old : NodeState) (h : IsNode old) where
@@ -383,18 +383,18 @@ module _ (order : Order) (old : NodeState) (h : IsNode old) where
       rebalance_makes (Ok (Plan total)) new m =
           let b = m.begun in
           let s = moved_settles total new m in
-          let most : new.kernel.writes ≤ old.kernel.writes + left_of (opened order old (begun_sets b)) old.kernel = s.few in
+          let most : writes new.kernel ≤ writes old.kernel + left_of (opened order old (begun_sets b)) old.kernel = s.few in
           record {
             exact = made_those order old (begun_sets b) new s.made most
                 (sym (same_sets order old h effects (begun_sets b) b.best.could (Some (planned old b.plan b.prices b.whole)) new s));
             few = omega (arith, most, opened_few (begun_sets b));
           }
-      rebalance_makes (Ok (Short wanted allowed)) new l = ap (λ (n : NodeState). n.kernel.writes) l.is
-      rebalance_makes (Err Memory) new e = ap (λ (n : NodeState). n.kernel.writes) e.1
+      rebalance_makes (Ok (Short wanted allowed)) new l = ap (λ (n : NodeState). writes n.kernel) l.is
+      rebalance_makes (Err Memory) new e = ap (λ (n : NodeState). writes n.kernel) e.1
       rebalance_makes (Err (Fault (Kernel fault))) new m =
-          let most : new.kernel.writes ≤ old.kernel.writes + left_of (opened order old (begun_sets m.1.begun)) old.kernel + 1 = (moved_breaks m.0 fault new m.1).few in
+          let most : writes new.kernel ≤ writes old.kernel + left_of (opened order old (begun_sets m.1.begun)) old.kernel + 1 = (moved_breaks m.0 fault new m.1).few in
           omega (arith, most, opened_few (begun_sets m.1.begun))
-      rebalance_makes (Err (Fault Busy)) new e = ap (λ (n : NodeState). n.kernel.writes) e.1
+      rebalance_makes (Err (Fault Busy)) new e = ap (λ (n : NodeState). writes n.kernel) e.1
       rebalance_makes (Err (Fault fault)) new e = absurd e
 
     module _ (effects : TargetsTakeEffect) where

@@ -18,7 +18,8 @@ use Rattle.proctable.specs.TableState.{TableState}
 use Rattle.proctable.specs.TableAnswers.{has_pids}
 use Rattle.kernel_model.specs.declared.KernelFault.{KernelFault}
 use Rattle.kernel_model.specs.declared.KernelFault.TheVariants.{NoGroup, Exists, IsRoot, NoSerials, NoPids, Failed}
-use Rattle.kernel_model.specs.KernelState.{KernelState, counted}
+use Rattle.kernel_model.specs.Trace.{MadeGroup}
+use Rattle.kernel_model.specs.KernelState.{KernelState, recorded}
 use Rattle.kernel_model.specs.WellFormed.{IsWellFormed}
 use Rattle.kernel_model.specs.Faults.{of_tree}
 use Rattle.kernel_model.specs.Refusals.{make_refusal, write_refusal}
@@ -41,7 +42,7 @@ use Rattle.node.proofs.MakingLemmas.{found_table, set_table}
 -- what of it the kernel before tells, and of want of serials the kernel after it
 abbrev Stood : KernelState → Group → List ℕ → KernelState → KernelFault → Type 0
 Stood k parent name new Failed = Unit {0}
-Stood k parent name new NoSerials = (child_of k.tree parent name ≡ None) × (k.tree.next_serial ≡ SERIAL_LIMIT) × (new ≡ counted k)
+Stood k parent name new NoSerials = (child_of k.tree parent name ≡ None) × (k.tree.next_serial ≡ SERIAL_LIMIT) × (new ≡ recorded (MadeGroup parent name (Err (Fault NoSerials))) k)
 Stood k parent name new NoPids = LAST_PID < k.table.next_pid
 Stood k parent name new fault = ⊥
 

@@ -2,7 +2,7 @@
 use Rattle.std.proofs.Common.{◌≡◌, inl, inr, ℕ, zero, suc, List, [], ◌∷◌, Some, refl, sym, ap, ◌∙◌, subst}
 use Rattle.std.proofs.lemmas.Option.{same_Some}
 use Rattle.std.specs.List.{AllByRecursion}
-use Rattle.std.specs.Prelude.{map, Result, Ok, Err}
+use Rattle.std.specs.Prelude.{None, map, Result, Ok, Err}
 use Rattle.cpu_set.specs.Ids.{Ids}
 use Rattle.kernel_model.specs.declared.KernelFault.{KernelFault}
 use Rattle.kernel_model.specs.declared.KernelFault.TheVariants.{NoPids}
@@ -24,12 +24,12 @@ use Rattle.node.specs.Updates.{Updates}
 use Rattle.node.specs.Calls.{NotLaunched, Ended, Places, Starts, Kills, Deletes}
 use Rattle.node.specs.Rows.{as_cpus}
 use Rattle.node.specs.Entries.{opened}
-use Rattle.node.specs.Rebalance.{StepsOn, Writes}
+use Rattle.node.specs.Rebalance.{StepsOn, Writes, Misses}
 use Rattle.node.specs.Machine.{Event, Step, IsOneWrite, IsOneStep, Run, RunsKeep, RunsStaySafe, RunsStayApart, RebalancesAreWrites, RebalancesAreSteps, DirectWritesKeep, RunsRebalance}
-use Rattle.node.specs.Machine.Event.{Create, Adopt, Update, Start, Kill, Delete, Rebalance, Begin, StepOn, WriteOn, Ask, Fork, Exit, Offline, Online}
+use Rattle.node.specs.Machine.Event.{Create, Adopt, Update, Start, Kill, Delete, Rebalance, Begin, StepOn, WriteOn, MissOn, Ask, Fork, Exit, Offline, Online}
 use Rattle.node.proofs.NodeLemmas.{fork_node, exit_node, offline_node, online_node, end_node, remove_refused_node, created_node, not_created_node, updated_node, not_updated_node, deleted_node, started_node}
 use Rattle.node.proofs.OrderLemmas.{OrdersLeave}
-use Rattle.node.proofs.StepLemmas.{its_writes, turn_step, more_node, ended_node, wrote, wrote_node}
+use Rattle.node.proofs.StepLemmas.{its_writes, its_misses, turn_step, turn_miss, more_node, ended_node, missed_node, wrote, wrote_node}
 use Rattle.node.proofs.HeadlineLemmas.{free_parents, begun_node, begins_node, rebalances_node, rebalance_leaves}
 use Rattle.node.proofs.FinishLemmas.{WritesMany, Ends, goes_of}
 use Rattle.node.proofs.ListLemmas.{all_of_map}
@@ -136,6 +136,9 @@ module _ (old : NodeState) (h : IsNode old) (new : NodeState) where
   step_keeps law (StepOn answer) s = stepped law answer s
   step_keeps law WriteOn s =
       moved (record old { kernel = new.kernel }) s.is (wrote_node law old h s.handover s.was new.kernel (its_writes old s.handover s.was new s))
+  step_keeps law (MissOn fault) s =
+      moved (record old { kernel = new.kernel; phase = Unsettled; ongoing = None }) s.is
+      (missed_node law old h s.handover s.was fault new.kernel (its_misses old s.handover s.was fault new s))
   step_keeps law (Ask question) s = unchanged s.1
   step_keeps law (Fork parent answer) s = moved (record old { kernel = new.kernel }) s.1 (fork_node old h new.kernel parent answer s.0)
   step_keeps law (Exit pid answer) s = moved (record old { kernel = new.kernel }) s.1 (exit_node old h new.kernel pid answer s.0)
@@ -160,22 +163,21 @@ module _ (law : OrdersLeave) where
   pub runs_rebalance : TargetsTakeEffect → RowsWeigh → ScaledRowsWeigh → RunsRebalance
   runs_rebalance effects weigh parts first events order old answer new h r b = rebalance_leaves order old (runs_keep first events old h r) law effects weigh parts answer new b
 
--- the step that ends a hand-over, as an event
+-- what ends a hand-over, as an event
 abbrev ending : Result (Unit {0}) KernelFault → Event
 ending (Ok done) = StepOn (Ok Done)
-ending (Err fault) = StepOn (Err (Kernel fault))
+ending (Err fault) = MissOn fault
 
-end_run : (P : Event → Type 0) → ((r : Result Progress NodeFault) → P (StepOn r)) → (old mid new : NodeState) (answer : Result (Unit {0}) KernelFault) → mid ≡ old → Ends mid answer new
-    → P (ending answer) × Run old (ending answer ∷ []) new
-end_run P steps old mid new (Ok done) same ends = (steps (Ok Done), (new, subst (λ (n : NodeState). StepsOn n (Ok Done) new) same ends, refl))
-end_run P steps old mid new (Err fault) same ends =
-    (steps (Err (Kernel fault)), (new, subst (λ (n : NodeState). StepsOn n (Err (Kernel fault)) new) same ends, refl))
+end_run : (old mid new : NodeState) (answer : Result (Unit {0}) KernelFault) → mid ≡ old → Ends mid answer new
+    → IsOneWrite (ending answer) × Run old (ending answer ∷ []) new
+end_run old mid new (Ok done) same ends = (tt, (new, subst (λ (n : NodeState). StepsOn n (Ok Done) new) same ends, refl))
+end_run old mid new (Err fault) same ends = (tt, (new, subst (λ (n : NodeState). Misses n fault new) same ends, refl))
 
 -- the writes to the end of a hand-over, as events
 writes_run : (count : ℕ) (old mid new : NodeState) (answer : Result (Unit {0}) KernelFault) → WritesMany count old mid → Ends mid answer new
     → (writes : List Event) × AllByRecursion IsOneWrite writes × Run old writes new
 writes_run zero old mid new answer more ends =
-    let last = end_run IsOneWrite (λ r. tt) old mid new answer more ends in (ending answer ∷ [], (last.0, tt), last.1)
+    let last = end_run old mid new answer more ends in (ending answer ∷ [], (last.0, tt), last.1)
 writes_run (suc count) old mid new answer more ends =
     let later = writes_run count more.0 mid new answer more.2 ends in (WriteOn ∷ later.0, (tt, later.1), (more.0, more.1, later.2))
 
@@ -196,10 +198,29 @@ module _ (o : Ongoing) (in_turn : o.order ≡ InTurn) where
     is = s.is;
   }
 
+  -- one that fails is a step too
+  one_miss : (old new : NodeState) (fault : KernelFault) → old.ongoing ≡ Some o → Misses old fault new → StepsOn old (Err (Kernel fault)) new
+  one_miss old new fault was s = record {
+    handover = s.handover;
+    was = s.was;
+    steps = turn_miss s.handover.order (ap (λ (x : Ongoing). x.order) (same_Some s.handover o (sym s.was ∙ was)) ∙ in_turn)
+        old.machine s.handover old.kernel fault new.kernel s.misses;
+    is = s.is;
+  }
+
+  abbrev last_step : Result (Unit {0}) KernelFault → Event
+  last_step (Ok done) = StepOn (Ok Done)
+  last_step (Err fault) = StepOn (Err (Kernel fault))
+
+  last_run : (old mid new : NodeState) (answer : Result (Unit {0}) KernelFault) → old.ongoing ≡ Some o → mid ≡ old → Ends mid answer new
+      → IsOneStep (last_step answer) × Run old (last_step answer ∷ []) new
+  last_run old mid new (Ok done) was same ends = (tt, (new, subst (λ (n : NodeState). StepsOn n (Ok Done) new) same ends, refl))
+  last_run old mid new (Err fault) was same ends = (tt, (new, one_miss old new fault was (subst (λ (n : NodeState). Misses n fault new) same ends), refl))
+
   steps_run : (count : ℕ) (old mid new : NodeState) (answer : Result (Unit {0}) KernelFault) → old.ongoing ≡ Some o → WritesMany count old mid → Ends mid answer new
       → (steps : List Event) × AllByRecursion IsOneStep steps × Run old steps new
   steps_run zero old mid new answer was more ends =
-      let last = end_run IsOneStep (λ r. tt) old mid new answer more ends in (ending answer ∷ [], (last.0, tt), last.1)
+      let last = last_run old mid new answer was more ends in (last_step answer ∷ [], (last.0, tt), last.1)
   steps_run (suc count) old mid new answer was more ends =
       let still : more.0.ongoing ≡ Some o = ap (λ (n : NodeState). n.ongoing) more.1.is ∙ was in
       let later = steps_run count more.0 mid new answer still more.2 ends in

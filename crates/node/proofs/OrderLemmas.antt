@@ -1,5 +1,5 @@
 -- What a step of a hand-over leaves, in either order.
-use Rattle.std.proofs.Common.{◌≡◌, inl, inr, ℕ, ◌+◌, ◌*◌, ◌≤◌, length, true, false, cond, [], ◌∷◌, refl, sym, ap, ◌∙◌, subst, arith}
+use Rattle.std.proofs.Common.{◌≡◌, inl, inr, ℕ, ◌+◌, ◌*◌, ◌≤◌, length, true, false, cond, [], ◌∷◌, ◌++◌, refl, sym, ap, ◌∙◌, subst, arith}
 use Rattle.std.proofs.lemmas.Bool.{false≢true}
 use Rattle.std.specs.Prelude.{◌⊎◌, find, Option, Some, None, is_none, is_some, Result, Ok, Err, IfErr}
 use Rattle.std.specs.List.{AllByRecursion, AllZip}
@@ -11,9 +11,10 @@ use Rattle.kernel_model.specs.declared.KernelFault.{KernelFault}
 use Rattle.kernel_model.specs.declared.KernelFault.TheVariants.{Failed}
 use Rattle.kernel_model.specs.declared.Call.{Call}
 use Rattle.kernel_model.specs.declared.Reply.{Reply}
-use Rattle.kernel_model.specs.KernelState.{KernelState}
+use Rattle.kernel_model.specs.KernelState.{KernelState, writes}
 use Rattle.kernel_model.specs.Cases.{rise}
 use Rattle.kernel_model.specs.Laws.{StepKeeps}
+use Rattle.kernel_model.specs.KernelLemmas.{itself_alike, keeps_itself, whatever_is_told}
 use Rattle.kernel_model.specs.Runs as kernel
 use Rattle.machine.specs.Layout.{Layout}
 use Rattle.machine.specs.IsSound.{IsSound}
@@ -26,7 +27,7 @@ use Rattle.apply_plan.specs.Kept.{kept}
 use Rattle.apply_plan.specs.KeptLemmas.{kept_target, kept_again}
 use Rattle.apply_plan.specs.Targets.{Targets, holders_of, IsHandover, ArePlaced}
 use Rattle.apply_plan.specs.DueLemmas.{nothing_is_due}
-use Rattle.apply_plan.specs.DueWrite.{held, must_move, due, written, progress_of, Steps, writes_to_come, HaveTargets, IsBetween, Between, Spends}
+use Rattle.apply_plan.specs.DueWrite.{held, must_move, due, written, asks_for, missed, progress_of, Steps, writes_to_come, HaveTargets, IsBetween, Between, Spends}
 use Rattle.apply_plan.specs.Leaves.{KeepsRest}
 use Rattle.apply_plan.specs.ListLemmas.{none_found}
 use Rattle.apply_plan.specs.OneStep.{StepLeaves, StepsLeave}
@@ -42,7 +43,9 @@ use Rattle.apply_plan.specs.DirectLemmas.{few_left}
 use Rattle.apply_plan.specs.DirectOneStep.{StepLeavesDirectly, DirectStepsLeave}
 use Rattle.apply_plan.specs.DirectOneStepLemmas.{direct_steps_leave}
 use Rattle.apply_plan.specs.DirectRuns as direct
-use Rattle.apply_plan.specs.DirectRunLemmas.{ends_directly}
+use Rattle.apply_plan.specs.DirectRunLemmas.{ends_directly, missed_kernel}
+use Rattle.apply_plan.specs.KernelFactLemmas.{missed_makes}
+use Rattle.apply_plan.specs.SqueezeLemmas.{none_squeezed}
 use Rattle.apply_plan.specs.Squeezes.{SqueezesOnlyStuck}
 use Rattle.direct_finish.specs.FinishesDirectly.{MayFollow}
 use Rattle.direct_finish.specs.FollowersLeave.{FollowerLeaves}
@@ -52,7 +55,7 @@ use Rattle.node.specs.declared.order.Order.TheVariants.{InTurn, Directly}
 use Rattle.node.specs.NodeState.{Ongoing}
 use Rattle.node.specs.Ongoing.{IsSince, IsOnWay, AreSince}
 use Rattle.node.specs.LeastCores.{least_cores}
-use Rattle.node.specs.Orders.{directed_of, StepsBy, WritesBy, left_by, FallsBy, made_by}
+use Rattle.node.specs.Orders.{directed_of, StepsBy, WritesBy, MissesBy, left_by, FallsBy, made_by}
 use Rattle.node.proofs.ListLemmas.{all_of, all_map2, zip_map}
 use Rattle.node.proofs.LeastLemmas.{least_is}
 
@@ -69,8 +72,8 @@ pub record StepLeft (order : Order) (m : Layout) (o : Ongoing) (old : KernelStat
   pub since : o.targets.reserved ≡ old.reserved → AreSince order old o → AreSince order new o
   pub counted : new.failures ≡ old.failures + rise r
   pub failed : IfErr r (λ fault. fault ≡ Failed)
-  pub made : new.writes ≡ old.writes + made_by order m o old
-  pub spends : new.writes + left_by order o.targets new ≤ old.writes + left_by order o.targets old + rise r
+  pub made : writes new ≡ writes old + made_by order m o old
+  pub spends : writes new + left_by order o.targets new ≤ writes old + left_by order o.targets old + rise r
   pub exact : order ≡ InTurn → Spends o.targets old (rise r) new
   pub spent : order ≡ InTurn → r ≡ Ok Done → writes_to_come o.targets new ≡ 0
   pub squeezes : order ≡ Directly → SqueezesOnlyStuck (directed_of o) (least_cores m) old new
@@ -84,18 +87,20 @@ pub record WriteLeft (order : Order) (m : Layout) (o : Ongoing) (old new : Kerne
   pub fewer : left_by order o.targets new + 1 ≤ left_by order o.targets old
   pub since : o.targets.reserved ≡ old.reserved → AreSince order old o → AreSince order new o
   pub counted : new.failures ≡ old.failures
-  pub spends : new.writes + left_by order o.targets new ≤ old.writes + left_by order o.targets old
+  pub spends : writes new + left_by order o.targets new ≤ writes old + left_by order o.targets old
   pub exact : order ≡ InTurn → Spends o.targets old 0 new
   pub squeezes : order ≡ Directly → SqueezesOnlyStuck (directed_of o) (least_cores m) old new
   pub way : order ≡ Directly → AreOnWay (directed_of o) old new
   pub kernel : StepKeeps old new
 
--- each step leaves this, and each of the writes
+-- each step leaves this, and each of the writes; one that fails leaves what a step does that fails
 pub record OrdersLeave : Type 0 where
   pub step : (order : Order) (m : Layout) (o : Ongoing) (old : KernelState) (r : Result Progress KernelFault) (new : KernelState) → IsSound m → AllByRecursion InRange o.allowed
       → IsOpen o.targets old → StepsBy order m o old r new → StepLeft order m o old r new
   pub write : (order : Order) (m : Layout) (o : Ongoing) (old new : KernelState) → IsSound m → AllByRecursion InRange o.allowed
       → IsOpen o.targets old → WritesBy order m o old new → WriteLeft order m o old new
+  pub miss : (order : Order) (m : Layout) (o : Ongoing) (old : KernelState) (fault : KernelFault) (new : KernelState) → IsSound m → AllByRecursion InRange o.allowed
+      → IsOpen o.targets old → MissesBy order m o old fault new → StepLeft order m o old (Err fault) new
 
 -- a call of somebody else leaves no more to do
 abbrev pub CallsLeave : Type 0
@@ -268,7 +273,7 @@ module _ (m : Layout) (o : Ongoing) (old : KernelState) (w : Write) where
         (left.on_way old (on_way_at_first o old));
     counted = refl;
     spends = (let fewer : left_directly o.targets next + 1 ≤ left_directly o.targets old = left.fewer in
-        let one : next.writes ≡ old.writes + 1 = refl in
+        let one : writes next ≡ writes old + 1 = omega arith in
         omega (arith, fewer, one));
     exact = λ is. absurd (let x : ⊥ = cc is in x);
     squeezes = λ _. left.squeezes;
@@ -276,11 +281,54 @@ module _ (m : Layout) (o : Ongoing) (old : KernelState) (w : Write) where
     kernel = left.kernel;
   }
 
+-- and one of them that fails
+module _ (m : Layout) (o : Ongoing) (old : KernelState) (w : Write) (serves : Serves (directed_of o) (least_cores m)) (opened : IsOpen o.targets old) where
+  abbrev lost : KernelState
+  lost = missed (Some w) old
+
+  miss_directly : is_some (due_directly (directed_of o) (least_cores m) old) ≡ true → StepLeft Directly m o old (Err Failed) lost
+  miss_directly some =
+      let d = directed_of o in
+      let least = least_cores m in
+      let rest : KeepsRest o.targets old lost = record {
+        table = refl;
+        present = refl;
+        reserved = refl;
+        online = refl;
+        nodes = refl;
+        alike = itself_alike old.tree;
+        mems = λ g. refl;
+        others = λ g o. refl;
+      } in
+      let way : AreOnWay d old lost =
+      all_of (λ e. OnWay o.targets.reserved (allowed_of d e) old e (held lost e)) (λ e. record { keeps = λ q h t. h; within = λ q h. inl h }) o.targets.entries in
+      let one : writes lost ≡ writes old + 1 = missed_makes (Some w) old in
+      record {
+        open_still = missed_kernel d least serves old lost opened (Some w);
+        safe = λ s. record { apart = s.apart; some = s.some };
+        rest = rest;
+        done = λ is. absurd (let x : ⊥ = cc is in x);
+        falls = λ is. absurd (let x : ⊥ = cc is in x);
+        fewer = λ is. absurd (let x : ⊥ = cc is in x);
+        more = λ is. absurd (let x : ⊥ = cc is in x);
+        since = λ reserve. since_directly o old lost opened.handover rest reserve
+            way;
+        counted = refl;
+        failed = refl;
+        made = one ∙ ap (λ b. writes old + cond b 1 0) (sym some);
+        spends = omega (arith, one);
+        exact = λ is. absurd (let x : ⊥ = cc is in x);
+        spent = λ is. absurd (let x : ⊥ = cc is in x);
+        squeezes = λ _. none_squeezed d opened.handover least serves old opened.placed lost (λ a. refl);
+        way = λ _. way;
+        kernel = whatever_is_told old old (old.failures + 1) (asks_for (Some w) (Err Failed) ++ old.trace) (keeps_itself old opened.well_formed);
+      }
+
 -- a step in turn after which more are to come is one of its writes
 write_in_turn : (m : Layout) (o : Ongoing) (old new : KernelState) → StepLeft InTurn m o old (Ok More) new → WriteLeft InTurn m o old new
 write_in_turn m o old new left =
     let counted : new.failures ≡ old.failures + 0 = left.counted in
-    let spends : new.writes + left_by InTurn o.targets new ≤ old.writes + left_by InTurn o.targets old + 0 = left.spends in
+    let spends : writes new + left_by InTurn o.targets new ≤ writes old + left_by InTurn o.targets old + 0 = left.spends in
     record {
       safe = left.safe;
       rest = left.rest;
@@ -306,8 +354,17 @@ each_write Directly m o old new sound ranged opened (w, follows, is) =
     subst (λ (k : KernelState). WriteLeft Directly m o old k) (sym is)
     (write_directly m o old w opened (followers_leave (directed_of o) (least_cores m) old w (serves_it m o sound ranged) opened follows))
 
+each_miss : (order : Order) (m : Layout) (o : Ongoing) (old : KernelState) (fault : KernelFault) (new : KernelState) → IsSound m → AllByRecursion InRange o.allowed
+    → IsOpen o.targets old → MissesBy order m o old fault new → StepLeft order m o old (Err fault) new
+each_miss InTurn m o old fault new sound ranged opened s = in_turn m o old new steps_leave opened (Err fault) s
+each_miss Directly m o old fault new sound ranged opened (failed, (w, follows, is)) =
+    let serves = serves_it m o sound ranged in
+    let some = (each_step_follows (directed_of o) (least_cores m) old opened.handover serves opened.placed).some w follows in
+    subst (λ (f : KernelFault). StepLeft Directly m o old (Err f) new) (sym failed)
+    (subst (λ (k : KernelState). StepLeft Directly m o old (Err Failed) k) (sym is) (miss_directly m o old w serves opened some))
+
 pub both_leave : OrdersLeave
-both_leave = record { step = each_step; write = each_write }
+both_leave = record { step = each_step; write = each_write; miss = each_miss }
 
 pub calls_leave : CallsLeave
 calls_leave InTurn m o old new c r sound ranged opened apart step =
@@ -362,6 +419,11 @@ module _ (m : Layout) (o : Ongoing) (old : KernelState) (valid : IsHandover o.ta
       → StepsBy order m o old r new → Rests r new
   it_rests sound ranged placed InTurn r new s = turn_rests r new s
   it_rests sound ranged placed Directly r new s = direct_rests (serves_it m o sound ranged) placed r new s
+
+  pub none_misses : IsSound m → AllByRecursion InRange o.allowed → ArePlaced old o.targets.entries → (order : Order) (fault : KernelFault) (new : KernelState)
+      → MissesBy order m o old fault new → ⊥
+  none_misses sound ranged placed InTurn fault new s = let no : ⊥ = cc (turn_rests (Err fault) new s).0 in no
+  none_misses sound ranged placed Directly fault new (failed, (w, follows, is)) = direct_holds (serves_it m o sound ranged) placed w follows
 
   pub none_writes : IsSound m → AllByRecursion InRange o.allowed → ArePlaced old o.targets.entries → (order : Order) (new : KernelState)
       → WritesBy order m o old new → ⊥

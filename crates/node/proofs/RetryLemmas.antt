@@ -8,7 +8,7 @@ use Rattle.std.specs.List.{AllByRecursion, list_any}
 use Rattle.faults.specs.declared.OrMemory.TheVariants.{Memory, Fault}
 use Rattle.kernel_model.specs.declared.KernelFault.{KernelFault}
 use Rattle.kernel_model.specs.declared.KernelFault.TheVariants.{Failed}
-use Rattle.kernel_model.specs.KernelState.{KernelState}
+use Rattle.kernel_model.specs.KernelState.{KernelState, writes}
 use Rattle.proctable.specs.TableState.{TableState}
 use Rattle.rows.specs.Scaled.{ScaledRowsWeigh}
 use Rattle.rows.specs.Weighs.{RowsWeigh}
@@ -93,7 +93,7 @@ module _ (law : OrdersLeave) (weigh : RowsWeigh) (parts : ScaledRowsWeigh) where
     record Leaves (old : NodeState) (answers : List Answer) (new : NodeState) : Type 0 where
       each : AllByRecursion IsAnswerOrFailed answers
       counted : new.kernel.failures ≡ old.kernel.failures + failed_in answers
-      few : new.kernel.writes ≤ old.kernel.writes + failed_in answers + (failed_in answers + 1) * per
+      few : writes new.kernel ≤ writes old.kernel + failed_in answers + (failed_in answers + 1) * per
 
     abbrev Ready : NodeState → Type 0
     Ready n = IsNode n × ((is_underway n.phase ≡ false) × (2 * live_count n ≡ per))
@@ -103,37 +103,37 @@ module _ (law : OrdersLeave) (weigh : RowsWeigh) (parts : ScaledRowsWeigh) where
         → failed_in (answer ∷ later) ≡ failed_in later → Leaves old (answer ∷ later) new
     unwritten old mid new answer later is same on none =
         let failures : mid.kernel.failures ≡ old.kernel.failures = ap (λ (k : KernelState). k.failures) same in
-        let writes : mid.kernel.writes ≡ old.kernel.writes = ap (λ (k : KernelState). k.writes) same in
+        let unwritten : writes mid.kernel ≡ writes old.kernel = ap (λ (k : KernelState). writes k) same in
         record {
           each = (inl is, on.each);
           counted = omega (arith, on.counted, failures, none);
-          few = subst (λ f. new.kernel.writes ≤ old.kernel.writes + f + (f + 1) * per) (sym none)
-              (subst (λ w. new.kernel.writes ≤ w + failed_in later + (failed_in later + 1) * per) writes on.few);
+          few = subst (λ f. writes new.kernel ≤ writes old.kernel + f + (f + 1) * per) (sym none)
+              (subst (λ w. writes new.kernel ≤ w + failed_in later + (failed_in later + 1) * per) unwritten on.few);
         }
 
     -- a plan, after which it is calm
-    after_plan : (old mid new : NodeState) (total : ℕ) (later : List Answer) → mid.kernel.writes ≤ old.kernel.writes + per
+    after_plan : (old mid new : NodeState) (total : ℕ) (later : List Answer) → writes mid.kernel ≤ writes old.kernel + per
         → mid.kernel.failures ≡ old.kernel.failures + 0 → Calm mid later new → Leaves old (Ok (Plan total) ∷ later) new
     after_plan old mid new total later made failed on =
         let failures : new.kernel.failures ≡ mid.kernel.failures = ap (λ (k : KernelState). k.failures) on.kernel in
-        let writes : new.kernel.writes ≡ mid.kernel.writes = ap (λ (k : KernelState). k.writes) on.kernel in
+        let unwritten : writes new.kernel ≡ writes mid.kernel = ap (λ (k : KernelState). writes k) on.kernel in
         let none : failed_in later ≡ 0 = on.none in
         record {
           each = (inl refl, on.each);
           counted = omega (arith, failures, failed, none);
-          few = subst (λ f. new.kernel.writes ≤ old.kernel.writes + f + (f + 1) * per) (sym none) (omega (arith, writes, made));
+          few = subst (λ f. writes new.kernel ≤ writes old.kernel + f + (f + 1) * per) (sym none) (omega (arith, unwritten, made));
         }
 
     -- a write that failed, after which the others follow
     after_failure : (old mid new : NodeState) (answer : Answer) (later : List Answer) → answer ≡ Err (Fault (Kernel Failed))
-        → failed_in (answer ∷ later) ≡ suc (failed_in later) → mid.kernel.writes ≤ old.kernel.writes + per + 1
+        → failed_in (answer ∷ later) ≡ suc (failed_in later) → writes mid.kernel ≤ writes old.kernel + per + 1
         → mid.kernel.failures ≡ old.kernel.failures + 1 → Leaves mid later new → Leaves old (answer ∷ later) new
     after_failure old mid new answer later is more made failed on =
-        let rest : new.kernel.writes ≤ mid.kernel.writes + failed_in later + (failed_in later + 1) * per = on.few in
+        let rest : writes new.kernel ≤ writes mid.kernel + failed_in later + (failed_in later + 1) * per = on.few in
         record {
           each = (inr is, on.each);
           counted = omega (arith, on.counted, failed, more);
-          few = subst (λ f. new.kernel.writes ≤ old.kernel.writes + f + (f + 1) * per) (sym more) (omega (arith, rest, made, times_more (failed_in later) per));
+          few = subst (λ f. writes new.kernel ≤ writes old.kernel + f + (f + 1) * per) (sym more) (omega (arith, rest, made, times_more (failed_in later) per));
         }
 
     ready_again : (old new : NodeState) → Ready old → IsNode new → is_underway new.phase ≡ false → new.containers ≡ old.containers
@@ -143,8 +143,8 @@ module _ (law : OrdersLeave) (weigh : RowsWeigh) (parts : ScaledRowsWeigh) where
     goes : (calls : List Called) (old new : NodeState) → Ready old → Run old (calls_of calls) new → Leaves old (answers_of calls) new
     goes [] old new ready run =
         let failures : new.kernel.failures ≡ old.kernel.failures = ap (λ (n : NodeState). n.kernel.failures) run in
-        let writes : new.kernel.writes ≡ old.kernel.writes = ap (λ (n : NodeState). n.kernel.writes) run in
-        record { each = tt; counted = omega (arith, failures); few = omega (arith, writes) }
+        let unwritten : writes new.kernel ≡ writes old.kernel = ap (λ (n : NodeState). writes n.kernel) run in
+        record { each = tt; counted = omega (arith, failures); few = omega (arith, unwritten) }
     goes ((order, answer) ∷ later) old new ready (mid, step, run) = by answer step (λ r. goes later mid new r run) where
       h : IsNode old
       h = ready.0
@@ -155,8 +155,8 @@ module _ (law : OrdersLeave) (weigh : RowsWeigh) (parts : ScaledRowsWeigh) where
       by : (a : Answer) → Rebalances order old a mid → (Ready mid → Leaves mid (answers_of later) new) → Leaves old (a ∷ answers_of later) new
       by (Ok (Plan total)) m rest =
           let made : PlanWrites order old mid = rebalance_makes order old h law effects bound (Ok (Plan total)) mid m in
-          let most : mid.kernel.writes ≤ old.kernel.writes + 2 * live_count old = made.few in
-          after_plan old mid new total (answers_of later) (subst (λ p. mid.kernel.writes ≤ old.kernel.writes + p) ready.1.1 most)
+          let most : writes mid.kernel ≤ writes old.kernel + 2 * live_count old = made.few in
+          after_plan old mid new total (answers_of later) (subst (λ p. writes mid.kernel ≤ writes old.kernel + p) ready.1.1 most)
           (rebalance_counts order old h law (Ok (Plan total)) mid m)
           (calm total later mid new (node (Ok (Plan total)) m) (answered_plans_stand law order old total mid h m) run)
       by (Ok (Short wanted allowed)) l rest =
@@ -168,9 +168,9 @@ module _ (law : OrdersLeave) (weigh : RowsWeigh) (parts : ScaledRowsWeigh) where
       by (Err (Fault (Kernel fault))) m rest =
           let failed : fault ≡ Failed = headline order old h law effects weigh parts (Err (Fault (Kernel fault))) mid m in
           let left : IsBrokenOff order old mid = broken_off order old h law weigh m.0 fault mid m.1 in
-          let made : mid.kernel.writes ≤ old.kernel.writes + 2 * live_count old + 1 = rebalance_makes order old h law effects bound (Err (Fault (Kernel fault))) mid m in
+          let made : writes mid.kernel ≤ writes old.kernel + 2 * live_count old + 1 = rebalance_makes order old h law effects bound (Err (Fault (Kernel fault))) mid m in
           after_failure old mid new (Err (Fault (Kernel fault))) (answers_of later) (ap (λ (f : KernelFault). Err (Fault (Kernel f))) failed) refl
-          (subst (λ p. mid.kernel.writes ≤ old.kernel.writes + p + 1) ready.1.1 made) left.counted
+          (subst (λ p. writes mid.kernel ≤ writes old.kernel + p + 1) ready.1.1 made) left.counted
           (rest (ready_again old mid ready (node (Err (Fault (Kernel fault))) m) (ap is_underway left.phase) left.same left.broken.rest.table))
       by (Err (Fault Busy)) e rest = absurd (false≢true (sym ready.1.0 ∙ e.0))
       by (Err (Fault fault)) e rest = absurd e

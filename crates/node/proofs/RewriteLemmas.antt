@@ -14,7 +14,7 @@ use Rattle.cpuset_tree.specs.Groups.{requested_cpus}
 use Rattle.cpuset_tree.specs.TreeLaws.{IsChild}
 use Rattle.kernel_model.specs.declared.KernelFault.{KernelFault}
 use Rattle.kernel_model.specs.declared.KernelFault.TheVariants.{Failed}
-use Rattle.kernel_model.specs.KernelState.{KernelState}
+use Rattle.kernel_model.specs.KernelState.{KernelState, writes}
 use Rattle.kernel_model.specs.Cases.{rise, WritesCpus, WritesMems}
 use Rattle.kernel_model.specs.KernelLemmas.{writes_count, counts_each_write}
 use Rattle.demand.specs.declared.Demand.{Demand as Asked}
@@ -44,8 +44,8 @@ module _ (make : Bool) (old : KernelState) (g : Group) (r : Result (Unit {0}) Ke
       let none : rise r ≡ 0 = ap (λ (x : Result (Unit {0}) KernelFault). rise x) m.0 in
       omega (arith, same, none)
 
-  none_made : new ≡ old → new.writes ≤ old.writes + 1
-  none_made m = let same : new.writes ≡ old.writes = ap (λ (k : KernelState). k.writes) m in omega (arith, same)
+  none_made : new ≡ old → writes new ≤ writes old + 1
+  none_made m = let same : writes new ≡ writes old = ap (λ (k : KernelState). writes k) m in omega (arith, same)
 
 cpus_count : (make : Bool) (old : KernelState) (g : Group) (cpus : Ids) (r : Result (Unit {0}) KernelFault) (new : KernelState) → MadeIf make old (WritesCpus old g cpus) r new
     → new.failures ≡ old.failures + rise r
@@ -58,13 +58,13 @@ mems_count true old g mems r new m = writes_count.mems old new g mems r m
 mems_count false old g mems r new m = none_fails false old g r new m
 
 cpus_few : (make : Bool) (old : KernelState) (g : Group) (cpus : Ids) (r : Result (Unit {0}) KernelFault) (new : KernelState) → MadeIf make old (WritesCpus old g cpus) r new
-    → new.writes ≤ old.writes + 1
-cpus_few true old g cpus r new m = let one : new.writes ≡ old.writes + 1 = counts_each_write.cpus old new g cpus r m in omega (arith, one)
+    → writes new ≤ writes old + 1
+cpus_few true old g cpus r new m = let one : writes new ≡ writes old + 1 = counts_each_write.cpus old new g cpus r m in omega (arith, one)
 cpus_few false old g cpus r new m = none_made false old g r new m.1
 
 mems_few : (make : Bool) (old : KernelState) (g : Group) (mems : Ids) (r : Result (Unit {0}) KernelFault) (new : KernelState) → MadeIf make old (WritesMems old g mems) r new
-    → new.writes ≤ old.writes + 1
-mems_few true old g mems r new m = let one : new.writes ≡ old.writes + 1 = counts_each_write.mems old new g mems r m in omega (arith, one)
+    → writes new ≤ writes old + 1
+mems_few true old g mems r new m = let one : writes new ≡ writes old + 1 = counts_each_write.mems old new g mems r m in omega (arith, one)
 mems_few false old g mems r new m = none_made false old g r new m.1
 
 module _ (old : KernelState) (reserved : Ids) (c : ContainerState) (asked : Asked) (new : KernelState) where
@@ -82,12 +82,12 @@ module _ (old : KernelState) (reserved : Ids) (c : ContainerState) (asked : Aske
       let two : new.failures ≡ mid.failures + rise r = mems_count moves mid c.group asked.homes r new second in
       omega (arith, one, two)
 
-  pub rewrites_few : (r : Result (Unit {0}) KernelFault) → Rewrites old reserved c asked r new → new.writes ≤ old.writes + 2
+  pub rewrites_few : (r : Result (Unit {0}) KernelFault) → Rewrites old reserved c asked r new → writes new ≤ writes old + 2
   rewrites_few r (inl (fault, refused, is)) =
-      let one : new.writes ≤ old.writes + 1 = cpus_few gives old c.group reserved (Err fault) new refused in omega (arith, one)
+      let one : writes new ≤ writes old + 1 = cpus_few gives old c.group reserved (Err fault) new refused in omega (arith, one)
   rewrites_few r (inr (done, mid, first, second)) =
-      let one : mid.writes ≤ old.writes + 1 = cpus_few gives old c.group reserved (Ok done) mid first in
-      let two : new.writes ≤ mid.writes + 1 = mems_few moves mid c.group asked.homes r new second in
+      let one : writes mid ≤ writes old + 1 = cpus_few gives old c.group reserved (Ok done) mid first in
+      let two : writes new ≤ writes mid + 1 = mems_few moves mid c.group asked.homes r new second in
       omega (arith, one, two)
 
   pub rewrites_none : gives ≡ false → moves ≡ false → Rewrites old reserved c asked (Ok tt) new → new ≡ old
@@ -180,8 +180,8 @@ rewrites_fail parent id reserved c xs found old h asked new fault (inr (done, mi
     mems_fails parent id reserved c mid still asked.homes (moves_home c.demand asked) fault new second
 
 -- `update`
-kept_few : (old new : NodeState) → new ≡ old → new.kernel.writes ≤ old.kernel.writes + 2
-kept_few old new same = let e : new.kernel.writes ≡ old.kernel.writes = ap (λ (n : NodeState). n.kernel.writes) same in omega (arith, e)
+kept_few : (old new : NodeState) → new ≡ old → writes new.kernel ≤ writes old.kernel + 2
+kept_few old new same = let e : writes new.kernel ≡ writes old.kernel = ap (λ (n : NodeState). writes n.kernel) same in omega (arith, e)
 
 pub update_counts : (old : NodeState) (id bundle config : List ℕ) (r : Result (Unit {0}) (OrMemory NodeFault)) (new : NodeState) → Updates old id bundle config r new
     → new.kernel.failures ≡ old.kernel.failures + rise_or_memory r
@@ -206,7 +206,7 @@ update_counts old id bundle config (Err (Fault (Config fault))) new u = kept_cou
 update_counts old id bundle config (Err (Fault (Demand fault))) new u = kept_count old new u.1
 
 pub update_few : (old : NodeState) (id bundle config : List ℕ) (r : Result (Unit {0}) (OrMemory NodeFault)) (new : NodeState) → Updates old id bundle config r new
-    → new.kernel.writes ≤ old.kernel.writes + 2
+    → writes new.kernel ≤ writes old.kernel + 2
 update_few old id bundle config (Ok done) new u = rewrites_few old.kernel old.machine.reserved u.container u.asked new.kernel (Ok tt) u.rewrites
 update_few old id bundle config (Err Memory) new u = kept_few old new u.3
 update_few old id bundle config (Err (Fault (Kernel fault))) new u =

@@ -22,12 +22,13 @@ use Rattle.node.specs.declared.fault.NodeFault.TheVariants.{Busy, BadId, IdInUse
 use Rattle.node.specs.declared.order.Order.{Order}
 use Rattle.node.specs.declared.outcome.Outcome.{Outcome}
 use Rattle.node.specs.declared.outcome.Outcome.TheVariants.{Plan, Short}
+use Rattle.node.specs.declared.phase.Phase.TheVariants.{Unsettled}
 use Rattle.node.specs.NodeState.{ContainerState, NodeState}
 use Rattle.node.specs.Updates.{Updates}
 use Rattle.node.specs.Calls.{Places, Starts, Kills, Deletes}
 use Rattle.node.specs.Rebalance.{Begins, StepsOn, Moves, Rebalances, phase_after}
 use Rattle.node.specs.Machine.{Event, Step, Run}
-use Rattle.node.specs.Machine.Event.{Create, Adopt, Update, Start, Kill, Delete, Rebalance, Begin, StepOn, WriteOn, Ask, Fork, Exit, Offline, Online}
+use Rattle.node.specs.Machine.Event.{Create, Adopt, Update, Start, Kill, Delete, Rebalance, Begin, StepOn, WriteOn, MissOn, Ask, Fork, Exit, Offline, Online}
 use Rattle.node.specs.Said.{IsMadeOf, reads_for, IsAskedIn, IsSaid, ContainersAreSaid}
 use Rattle.node.proofs.ContainerLemmas.{split, all_started, each_left}
 use Rattle.node.proofs.ListLemmas.{all_push, all_map, pairs_push}
@@ -402,6 +403,9 @@ module _ (done : List Event) (old new : NodeState) where
   event_said WriteOn s h =
       moved (SaidOf (done ++ WriteOn ∷ [])) (record old { kernel = new.kernel }) new s.is
       (none_more done WriteOn old (λ key. refl) h)
+  event_said (MissOn fault) s h =
+      moved (SaidOf (done ++ MissOn fault ∷ [])) (record old { kernel = new.kernel; phase = Unsettled; ongoing = None }) new s.is
+      (none_more done (MissOn fault) old (λ key. refl) h)
   event_said (Ask question) s h =
       moved (SaidOf (done ++ Ask question ∷ [])) old new s.1
       (none_more done (Ask question) old (λ key. refl) h)

@@ -29,7 +29,7 @@ use Rattle.node.specs.declared.fault.NodeFault.TheVariants.{Busy, Kernel}
 use Rattle.node.specs.declared.order.Order.{Order}
 use Rattle.node.specs.declared.outcome.Outcome.{Outcome}
 use Rattle.node.specs.declared.outcome.Outcome.TheVariants.{Plan, Short}
-use Rattle.node.specs.declared.phase.Phase.TheVariants.{Settled, Underway, Unsettled}
+use Rattle.node.specs.declared.phase.Phase.TheVariants.{Settled, Underway}
 use Rattle.node.specs.NodeState.{ContainerState, Ongoing, NodeState, is_underway}
 use Rattle.node.specs.Owners.{is_pinned}
 use Rattle.node.specs.Status.{is_live}
@@ -37,18 +37,18 @@ use Rattle.node.specs.IsNode.{IsNode}
 use Rattle.node.specs.Rows.{as_cpus, requested_by, planned}
 use Rattle.node.specs.Best.{AreOwn, is_asking, asking, wanted_by, CouldHave, distance, total_distance, moved_by, moved, IsBest}
 use Rattle.node.specs.Entries.{pool_of, Target, entry_of, plan_pool, plan_targets, plan_entries, opened}
-use Rattle.node.specs.Orders.{StepsBy, WritesBy}
-use Rattle.node.specs.Rebalance.{Begun, StepsOn, Writes, Moves, Finishes, Rebalances}
+use Rattle.node.specs.Orders.{StepsBy, WritesBy, MissesBy}
+use Rattle.node.specs.Rebalance.{Begun, StepsOn, Writes, Misses, Moves, Finishes, Rebalances}
 use Rattle.node.specs.Standing.{requested_sets, HasPool, PlanStands, KeepsPlan, StandingPlansAreKept, AnsweredPlansStand, SecondsKeepPlans}
 use Rattle.node.proofs.ListLemmas.{all_of, all_of_map, of_all_map, all_map, zip_map}
 use Rattle.node.proofs.AskingLemmas.{short_stands}
 use Rattle.node.proofs.DistanceLemmas.{there_in_range, online_there}
 use Rattle.node.proofs.FinishLemmas.{WritesMany, Goes, goes_of, Settles, settles}
 use Rattle.node.proofs.HeadlineLemmas.{begun_node, rebalances_node}
-use Rattle.node.proofs.OrderLemmas.{OrdersLeave, it_rests, none_writes}
+use Rattle.node.proofs.OrderLemmas.{OrdersLeave, it_rests, none_misses, none_writes}
 use Rattle.node.proofs.PlanLemmas.{IsDealt, over_targets, opened_ongoing, plan_placed}
 use Rattle.node.proofs.SizeLemmas.{same_size, none_left_of}
-use Rattle.node.proofs.StepLemmas.{its_steps, its_writes}
+use Rattle.node.proofs.StepLemmas.{its_steps, its_writes, its_misses}
 
 abbrev Container : Type 0
 Container = List ℕ × ContainerState
@@ -156,7 +156,8 @@ module _ (n : NodeState) (h : IsNode n) (could : CouldHave n (requested_sets n))
 
 module _ (o : Ongoing) (n : NodeState) (was : n.ongoing ≡ Some o)
     (rests : (r : Result Progress KernelFault) (new : KernelState) → StepsBy o.order n.machine o n.kernel r new → (r ≡ Ok Done) × (new ≡ n.kernel))
-    (holds : (new : KernelState) → WritesBy o.order n.machine o n.kernel new → ⊥) where
+    (holds : (new : KernelState) → WritesBy o.order n.machine o n.kernel new → ⊥)
+    (lasts : (fault : KernelFault) (new : KernelState) → MissesBy o.order n.machine o n.kernel fault new → ⊥) where
   no_more : (mid : NodeState) → Writes n mid → ⊥
   no_more mid s = holds mid.kernel (its_writes n o was mid s)
 
@@ -169,16 +170,15 @@ module _ (o : Ongoing) (n : NodeState) (was : n.ongoing ≡ Some o)
       ∙ ap (λ (x : KernelState). record n { kernel = x; phase = Settled; ongoing = None })
       (rests (Ok Done) new.kernel (its_steps n o was new (Ok Done) Settled None s)).1
 
-  none_fails : (fault : KernelFault) (new : NodeState) → StepsOn n (Err (Kernel fault)) new → ⊥
-  none_fails fault new s =
-      let no : ⊥ = cc (rests (Err fault) new.kernel (its_steps n o was new (Err fault) Unsettled None s)).0 in no
+  none_fails : (fault : KernelFault) (new : NodeState) → Misses n fault new → ⊥
+  none_fails fault new s = lasts fault new.kernel (its_misses n o was fault new s)
 
   first_ends : (count : ℕ) (mid new : NodeState) → WritesMany count n mid → StepsOn mid (Ok Done) new → new ≡ settled
   first_ends zero mid new more ends = ends_here new (subst (λ (x : NodeState). StepsOn x (Ok Done) new) more ends)
   first_ends (suc count) mid new more ends = absurd (no_more more.0 more.1)
 
-  first_holds : (count : ℕ) (fault : KernelFault) (mid new : NodeState) → WritesMany count n mid → StepsOn mid (Err (Kernel fault)) new → ⊥
-  first_holds zero fault mid new more ends = none_fails fault new (subst (λ (x : NodeState). StepsOn x (Err (Kernel fault)) new) more ends)
+  first_holds : (count : ℕ) (fault : KernelFault) (mid new : NodeState) → WritesMany count n mid → Misses mid fault new → ⊥
+  first_holds zero fault mid new more ends = none_fails fault new (subst (λ (x : NodeState). Misses x fault new) more ends)
   first_holds (suc count) fault mid new more ends = no_more more.0 more.1
 
 module _ (law : OrdersLeave) (order : Order) (old : NodeState) (h : IsNode old) (total : ℕ) (stands : PlanStands old total) where
@@ -215,6 +215,12 @@ module _ (law : OrdersLeave) (order : Order) (old : NodeState) (h : IsNode old) 
       none_writes old.machine (opened order old (requested_sets old)) old.kernel ongoing.handover (none_moves old h stands.best.could stands.pool) h.layout.sound ongoing.ranged
       (plan_placed old h (requested_sets old) stands.best.could) order new s
 
+  lasts_then : (fault : KernelFault) (new : KernelState) → MissesBy order old.machine (opened order old (requested_sets old)) old.kernel fault new → ⊥
+  lasts_then fault new s =
+      let ongoing = opened_ongoing old h (requested_sets old) stands.best.could order in
+      none_misses old.machine (opened order old (requested_sets old)) old.kernel ongoing.handover (none_moves old h stands.best.could stands.pool) h.layout.sound ongoing.ranged
+      (plan_placed old h (requested_sets old) stands.best.could) order fault new s
+
   -- the certificate that is left is its
   as_left : (last : Option Certificate) (new : NodeState) → new ≡ record (begun last) { phase = Settled; ongoing = None }
       → new ≡ record old { pool = plan_pool old (requested_sets old); phase = Settled; ongoing = None; last = new.last }
@@ -233,7 +239,7 @@ module _ (law : OrdersLeave) (order : Order) (old : NodeState) (h : IsNode old) 
       let f : Goes (begun last) (Ok tt) new =
       goes_of law (begun last) (begun_is_node found m.mid b) (Ok tt) new (subst (λ (n : NodeState). Finishes n (Ok tt) new) (begun_as found m.mid b) m.finishes) in (
         same_total old h total found (sets_of b) stands.best b.best,
-        as_left last new (first_ends (opened order old (requested_sets old)) (begun last) refl rests_then holds_then f.count f.mid new f.writes f.ends),
+        as_left last new (first_ends (opened order old (requested_sets old)) (begun last) refl rests_then holds_then lasts_then f.count f.mid new f.writes f.ends),
       )
 
   none_breaks : (found : ℕ) (fault : KernelFault) (new : NodeState) → Moves order old found (Err fault) new → ⊥
@@ -242,7 +248,7 @@ module _ (law : OrdersLeave) (order : Order) (old : NodeState) (h : IsNode old) 
       let last : Option Certificate = Some (planned old b.plan b.prices b.whole) in
       let f : Goes (begun last) (Err fault) new =
       goes_of law (begun last) (begun_is_node found m.mid b) (Err fault) new (subst (λ (n : NodeState). Finishes n (Err fault) new) (begun_as found m.mid b) m.finishes) in
-      first_holds (opened order old (requested_sets old)) (begun last) refl rests_then holds_then f.count fault f.mid new f.writes f.ends
+      first_holds (opened order old (requested_sets old)) (begun last) refl rests_then holds_then lasts_then f.count fault f.mid new f.writes f.ends
 
   pub plan_is_kept : RowsWeigh → ScaledRowsWeigh → (answer : Result Outcome (OrMemory NodeFault)) (new : NodeState) → Rebalances order old answer new
       → KeepsPlan old total answer new

@@ -6,7 +6,7 @@ use Rattle.std.specs.List.{AllByRecursion}
 use Rattle.cpuset_tree.specs.declared.Group.{Group}
 use Rattle.cpuset_tree.specs.Groups.{same_group, is_root_entry, cpus_in, mems_in}
 use Rattle.kernel_model.specs.declared.KernelFault.{KernelFault}
-use Rattle.kernel_model.specs.KernelState.{KernelState}
+use Rattle.kernel_model.specs.KernelState.{KernelState, writes}
 use Rattle.kernel_model.specs.Laws.{StepKeeps}
 use Rattle.apply_plan.specs.declared.Progress.{Progress}
 use Rattle.apply_plan.specs.declared.Progress.TheVariants.{More, Done}
@@ -30,10 +30,10 @@ use Rattle.node.specs.NodeState.{Ongoing, NodeState, is_underway}
 use Rattle.node.specs.Owners.{Owner, owners_of}
 use Rattle.node.specs.Ongoing.{AreOf, AreSince, IsOngoing, Stands, IsBroken}
 use Rattle.node.specs.LeastCores.{least_cores}
-use Rattle.node.specs.Orders.{directed_of, StepsBy, WritesBy, left_of, FallsBy, made_by}
+use Rattle.node.specs.Orders.{directed_of, StepsBy, WritesBy, MissesBy, left_of, FallsBy, made_by}
 use Rattle.node.specs.IsNode.{IsHome, IsShallow, IsPlaced, IsFirst, Holds, IsNode}
 use Rattle.node.specs.Leaves.{rise_of}
-use Rattle.node.specs.Rebalance.{Stepped, StepsOn, Writes}
+use Rattle.node.specs.Rebalance.{Stepped, StepsOn, Writes, Misses}
 use Rattle.node.proofs.ListLemmas.{all_map}
 use Rattle.node.proofs.OrderLemmas.{StepLeft, WriteLeft, OrdersLeave, serves_it}
 use Rattle.node.proofs.HoldsLemmas.{same_owned}
@@ -139,6 +139,18 @@ its_steps old o was new r phase ongoing s = subst (λ (x : Ongoing). StepsBy x.o
 pub its_writes : (old : NodeState) (o : Ongoing) → old.ongoing ≡ Some o → (new : NodeState) → Writes old new → WritesBy o.order old.machine o old.kernel new.kernel
 its_writes old o was new s = subst (λ (x : Ongoing). WritesBy x.order old.machine x old.kernel new.kernel) (same_Some s.handover o (sym s.was ∙ was)) s.writes
 
+-- and one that fails
+pub its_misses : (old : NodeState) (o : Ongoing) → old.ongoing ≡ Some o → (fault : KernelFault) (new : NodeState) → Misses old fault new
+    → MissesBy o.order old.machine o old.kernel fault new.kernel
+its_misses old o was fault new s =
+    subst (λ (x : Ongoing). MissesBy x.order old.machine x old.kernel fault new.kernel) (same_Some s.handover o (sym s.was ∙ was)) s.misses
+
+-- in turn one that fails is a step
+pub turn_miss : (order : Order) → order ≡ InTurn → (m : Layout) (o : Ongoing) (old : KernelState) (fault : KernelFault) (new : KernelState)
+    → MissesBy order m o old fault new → StepsBy order m o old (Err fault) new
+turn_miss InTurn is m o old fault new s = s
+turn_miss Directly is m o old fault new s = absurd (let no : ⊥ = cc is in no)
+
 -- in turn it is a step after which more are to come
 pub turn_step : (order : Order) → order ≡ InTurn → (m : Layout) (o : Ongoing) (old new : KernelState) → WritesBy order m o old new → StepsBy order m o old (Ok More) new
 turn_step InTurn is m o old new s = s
@@ -181,6 +193,32 @@ module _ (law : OrdersLeave) (n : NodeState) (h : IsNode n) (o : Ongoing) (was :
   node_at : (new : KernelState) → Moved n.parent Owners o n.kernel new → IsNode (record n { kernel = new })
   node_at new moved_on = kernel_node n h new moved_on.stays (subst (Stands new Owners (is_underway n.phase)) (sym was) (stands.0, moved_on.ongoing))
 
+  -- and the same once it is over
+  over_at : (new : KernelState) → Moved n.parent Owners o n.kernel new → (phase : Phase) → is_underway phase ≡ false
+      → IsNode (record n { kernel = new; phase = phase; ongoing = None })
+  over_at new moved_on phase settled =
+      let still = node_at new moved_on in
+      record {
+        layout = still.layout;
+        machine = still.machine;
+        holds = still.holds;
+        few = still.few;
+        asked = still.asked;
+        stands = settled;
+        proved = still.proved;
+      }
+
+  -- one of the writes that are made all at once, which fails
+  module _ (fault : KernelFault) (new : KernelState) (s : MissesBy o.order n.machine o n.kernel fault new) where
+    pub missed : StepLeft o.order n.machine o n.kernel (Err fault) new
+    missed = law.miss o.order n.machine o n.kernel fault new h.layout.sound stands.1.ranged open_now s
+
+    pub missed_on : Moved n.parent Owners o n.kernel new
+    missed_on = moved n.parent Owners o n.kernel new h.holds stands.1 missed.rest missed.safe missed.since missed.kernel
+
+    pub missed_node : IsNode (record n { kernel = new; phase = Unsettled; ongoing = None })
+    missed_node = over_at new missed_on Unsettled refl
+
   -- one of the writes that are made all at once
   module _ (new : KernelState) (s : WritesBy o.order n.machine o n.kernel new) where
     pub wrote : WriteLeft o.order n.machine o n.kernel new
@@ -201,15 +239,7 @@ module _ (law : OrdersLeave) (n : NodeState) (h : IsNode n) (o : Ongoing) (was :
     more_node = node_at new moved_on
 
     pub ended_node : (phase : Phase) → is_underway phase ≡ false → IsNode (record n { kernel = new; phase = phase; ongoing = None })
-    ended_node phase settled = record {
-      layout = more_node.layout;
-      machine = more_node.machine;
-      holds = more_node.holds;
-      few = more_node.few;
-      asked = more_node.asked;
-      stands = settled;
-      proved = more_node.proved;
-    }
+    ended_node = over_at new moved_on
 
     pub broken : IsBroken o n.kernel new
     broken = record { since = moved_on.ongoing.since; rest = moved_on.rest }
@@ -269,7 +299,7 @@ pub record Says (old : NodeState) (o : Ongoing) (r : Result Progress NodeFault) 
   pub falls : r ≡ Ok More → FallsBy o.order o.targets old.kernel new.kernel
   pub done : r ≡ Ok Done → HaveTargets new.kernel o.targets.entries
   pub broken : OnErr r (IsBroken o old.kernel new.kernel)
-  pub made : new.kernel.writes ≡ old.kernel.writes + made_by o.order old.machine o old.kernel
+  pub made : writes new.kernel ≡ writes old.kernel + made_by o.order old.machine o old.kernel
   pub squeezes : o.order ≡ Directly → SqueezesOnlyStuck (directed_of o) (least_cores old.machine) old.kernel new.kernel
   pub way : o.order ≡ Directly → AreOnWay (directed_of o) old.kernel new.kernel
 

@@ -6,7 +6,7 @@ use Rattle.cpuset_tree.specs.declared.Group.{Group}
 use Rattle.cpuset_tree.specs.Groups.{child_of}
 use Rattle.kernel_model.specs.declared.KernelFault.{KernelFault}
 use Rattle.kernel_model.specs.declared.KernelFault.TheVariants.{NoPids}
-use Rattle.kernel_model.specs.KernelState.{KernelState}
+use Rattle.kernel_model.specs.KernelState.{KernelState, writes}
 use Rattle.kernel_model.specs.KernelLemmas.{counts_each_write}
 use Rattle.faults.specs.declared.OrMemory.{OrMemory}
 use Rattle.faults.specs.declared.OrMemory.TheVariants.{Memory, Fault}
@@ -19,79 +19,79 @@ use Rattle.node.specs.Written.{one_write, launch_writes, CreateWrites}
 
 -- a group that is not there is made by one write, whatever it answers
 pub find_makes : (o : Option Group) (old : KernelState) (parent : Group) (name : List ℕ) (r : Result Group (OrMemory KernelFault)) (new : KernelState) → FindsOr o old parent name r new
-    → new.writes ≡ old.writes + cond (is_some o) 0 1
-find_makes (Some g) old parent name r new f = let same : new.writes ≡ old.writes = ap (λ (k : KernelState). k.writes) f.1 in omega (arith, same)
+    → writes new ≡ writes old + cond (is_some o) 0 1
+find_makes (Some g) old parent name r new f = let same : writes new ≡ writes old = ap (λ (k : KernelState). writes k) f.1 in omega (arith, same)
 find_makes None old parent name r new f = counts_each_write.make old new parent name r f
 
-sets_make : (old : KernelState) (g : Group) (cpus mems : Ids) (r : Result (Unit {0}) KernelFault) (new : KernelState) → WritesSets old g cpus mems r new → new.writes ≤ old.writes + 2
+sets_make : (old : KernelState) (g : Group) (cpus mems : Ids) (r : Result (Unit {0}) KernelFault) (new : KernelState) → WritesSets old g cpus mems r new → writes new ≤ writes old + 2
 sets_make old g cpus mems r new s =
     elim s [
-      | inl refused ↦ let one : new.writes ≡ old.writes + 1 = counts_each_write.cpus old new g cpus (Err refused.0) refused.1 in omega (arith, one)
+      | inl refused ↦ let one : writes new ≡ writes old + 1 = counts_each_write.cpus old new g cpus (Err refused.0) refused.1 in omega (arith, one)
       | inr done ↦
-          let first : done.1.writes ≡ old.writes + 1 = counts_each_write.cpus old done.1 g cpus (Ok done.0) done.2 in
-          let second : new.writes ≡ done.1.writes + 1 = counts_each_write.mems done.1 new g mems r done.3 in
+          let first : writes done.1 ≡ writes old + 1 = counts_each_write.cpus old done.1 g cpus (Ok done.0) done.2 in
+          let second : writes new ≡ writes done.1 + 1 = counts_each_write.mems done.1 new g mems r done.3 in
           omega (arith, first, second)
     ]
 
-sets_made : (old : KernelState) (g : Group) (cpus mems : Ids) (v : Unit {0}) (new : KernelState) → WritesSets old g cpus mems (Ok v) new → new.writes ≡ old.writes + 2
+sets_made : (old : KernelState) (g : Group) (cpus mems : Ids) (v : Unit {0}) (new : KernelState) → WritesSets old g cpus mems (Ok v) new → writes new ≡ writes old + 2
 sets_made old g cpus mems v new s =
     elim s [
       | inl refused ↦ absurd (let x : ⊥ = cc refused.2 in x)
       | inr done ↦
-          let first : done.1.writes ≡ old.writes + 1 = counts_each_write.cpus old done.1 g cpus (Ok done.0) done.2 in
-          let second : new.writes ≡ done.1.writes + 1 = counts_each_write.mems done.1 new g mems (Ok v) done.3 in
+          let first : writes done.1 ≡ writes old + 1 = counts_each_write.cpus old done.1 g cpus (Ok done.0) done.2 in
+          let second : writes new ≡ writes done.1 + 1 = counts_each_write.mems done.1 new g mems (Ok v) done.3 in
           omega (arith, first, second)
     ]
 
 -- the writes of a start in a group
-start_makes : (old : KernelState) (g : Group) (cpus mems : Ids) (r : Result ℕ (OrMemory KernelFault)) (new : KernelState) → StartsIn old g cpus mems r new → new.writes ≤ old.writes + 3
+start_makes : (old : KernelState) (g : Group) (cpus mems : Ids) (r : Result ℕ (OrMemory KernelFault)) (new : KernelState) → StartsIn old g cpus mems r new → writes new ≤ writes old + 3
 start_makes old g cpus mems r new s =
     elim s [
       | inl refused ↦ by refused.0 refused.1
       | inr done ↦
-          let first : done.1.writes ≡ old.writes + 2 = sets_made old g cpus mems done.0 done.1 done.2 in
-          let second : new.writes ≡ done.1.writes + 1 = counts_each_write.spawn done.1 new g r done.3 in
+          let first : writes done.1 ≡ writes old + 2 = sets_made old g cpus mems done.0 done.1 done.2 in
+          let second : writes new ≡ writes done.1 + 1 = counts_each_write.spawn done.1 new g r done.3 in
           omega (arith, first, second)
     ] where
-      by : (e : OrMemory KernelFault) → AtOnce (WritesSets old g cpus mems) (Err e) new → new.writes ≤ old.writes + 3
+      by : (e : OrMemory KernelFault) → AtOnce (WritesSets old g cpus mems) (Err e) new → writes new ≤ writes old + 3
       by Memory f = absurd f
-      by (Fault fault) f = let two : new.writes ≤ old.writes + 2 = sets_make old g cpus mems (Err fault) new f in omega (arith, two)
+      by (Fault fault) f = let two : writes new ≤ writes old + 2 = sets_make old g cpus mems (Err fault) new f in omega (arith, two)
 
-start_made : (old : KernelState) (g : Group) (cpus mems : Ids) (pid : ℕ) (new : KernelState) → StartsIn old g cpus mems (Ok pid) new → new.writes ≡ old.writes + 3
+start_made : (old : KernelState) (g : Group) (cpus mems : Ids) (pid : ℕ) (new : KernelState) → StartsIn old g cpus mems (Ok pid) new → writes new ≡ writes old + 3
 start_made old g cpus mems pid new s =
     elim s [
       | inl refused ↦ absurd (let x : ⊥ = cc refused.2 in x)
       | inr done ↦
-          let first : done.1.writes ≡ old.writes + 2 = sets_made old g cpus mems done.0 done.1 done.2 in
-          let second : new.writes ≡ done.1.writes + 1 = counts_each_write.spawn done.1 new g (Ok pid) done.3 in
+          let first : writes done.1 ≡ writes old + 2 = sets_made old g cpus mems done.0 done.1 done.2 in
+          let second : writes new ≡ writes done.1 + 1 = counts_each_write.spawn done.1 new g (Ok pid) done.3 in
           omega (arith, first, second)
     ]
 
 launch_makes : (old : KernelState) (parent : Group) (name : List ℕ) (cpus mems : Ids) (e : OrMemory KernelFault) (new : KernelState) → Launches old parent name cpus mems (Err e) new
-    → new.writes ≤ old.writes + launch_writes old parent name
+    → writes new ≤ writes old + launch_writes old parent name
 launch_makes old parent name cpus mems e new l =
     elim l [
       | inl refused ↦
-          let one : new.writes ≡ old.writes + cond (is_some (child_of old.tree parent name)) 0 1 = find_makes (child_of old.tree parent name) old parent name (Err e) new refused in
+          let one : writes new ≡ writes old + cond (is_some (child_of old.tree parent name)) 0 1 = find_makes (child_of old.tree parent name) old parent name (Err e) new refused in
           omega (arith, one)
       | inr made ↦
-          let first : made.1.writes ≡ old.writes + cond (is_some (child_of old.tree parent name)) 0 1 = find_makes (child_of old.tree parent name) old parent name (Ok made.0) made.1 made.2 in
-          let later : new.writes ≤ made.1.writes + 3 = start_makes made.1 made.0 cpus mems (Err e) new made.3 in
+          let first : writes made.1 ≡ writes old + cond (is_some (child_of old.tree parent name)) 0 1 = find_makes (child_of old.tree parent name) old parent name (Ok made.0) made.1 made.2 in
+          let later : writes new ≤ writes made.1 + 3 = start_makes made.1 made.0 cpus mems (Err e) new made.3 in
           omega (arith, first, later)
     ]
 
 launch_made : (old : KernelState) (parent : Group) (name : List ℕ) (cpus mems : Ids) (made : Group × ℕ) (new : KernelState) → Launches old parent name cpus mems (Ok made) new
-    → new.writes ≡ old.writes + launch_writes old parent name
+    → writes new ≡ writes old + launch_writes old parent name
 launch_made old parent name cpus mems made new l =
-    let first : l.0.writes ≡ old.writes + cond (is_some (child_of old.tree parent name)) 0 1 = find_makes (child_of old.tree parent name) old parent name (Ok made.0) l.0 l.1 in
-    let later : new.writes ≡ l.0.writes + 3 = start_made l.0 made.0 cpus mems made.1 new l.2 in
+    let first : writes l.0 ≡ writes old + cond (is_some (child_of old.tree parent name)) 0 1 = find_makes (child_of old.tree parent name) old parent name (Ok made.0) l.0 l.1 in
+    let later : writes new ≡ writes l.0 + 3 = start_made l.0 made.0 cpus mems made.1 new l.2 in
     omega (arith, first, later)
 
-kept_writes : (old new : NodeState) → new ≡ old → new.kernel.writes ≡ old.kernel.writes + 0
-kept_writes old new same = let e : new.kernel.writes ≡ old.kernel.writes = ap (λ (n : NodeState). n.kernel.writes) same in omega (arith, e)
+kept_writes : (old new : NodeState) → new ≡ old → writes new.kernel ≡ writes old.kernel + 0
+kept_writes old new same = let e : writes new.kernel ≡ writes old.kernel = ap (λ (n : NodeState). writes n.kernel) same in omega (arith, e)
 
-few_writes : (old new : NodeState) (n : ℕ) → new ≡ old → new.kernel.writes ≤ old.kernel.writes + n
-few_writes old new n same = let e : new.kernel.writes ≡ old.kernel.writes = ap (λ (m : NodeState). m.kernel.writes) same in omega (arith, e)
+few_writes : (old new : NodeState) (n : ℕ) → new ≡ old → writes new.kernel ≤ writes old.kernel + n
+few_writes old new n same = let e : writes new.kernel ≡ writes old.kernel = ap (λ (m : NodeState). writes m.kernel) same in omega (arith, e)
 
 -- `create` and `adopt`
 pub place_makes : (cpus : Ids) (old : NodeState) (id bundle config : List ℕ) (r : Result ℕ (OrMemory NodeFault)) (new : NodeState) → Places cpus old id bundle config r new → CreateWrites old id r new
@@ -122,7 +122,7 @@ place_makes cpus old id bundle config (Err (Fault (Demand fault))) new h = few_w
 
 -- `kill`
 pub kill_makes : (old : NodeState) (id signal : List ℕ) (r : Result (Unit {0}) NodeFault) (new : NodeState) → Kills old id signal r new
-    → new.kernel.writes ≡ old.kernel.writes + one_write r
+    → writes new.kernel ≡ writes old.kernel + one_write r
 kill_makes old id signal (Ok v) new h = counts_each_write.end old.kernel new.kernel h.container.group (Ok tt) h.ended
 kill_makes old id signal (Err (Kernel fault)) new h = counts_each_write.end old.kernel new.kernel h.1.container.group (Err fault) h.1.ended
 kill_makes old id signal (Err Busy) new h = kept_writes old new h.1
@@ -143,7 +143,7 @@ kill_makes old id signal (Err (Demand fault)) new h = kept_writes old new h.1
 
 -- `delete`
 pub delete_makes : (old : NodeState) (id : List ℕ) (r : Result (Unit {0}) NodeFault) (new : NodeState) → Deletes old id r new
-    → new.kernel.writes ≡ old.kernel.writes + one_write r
+    → writes new.kernel ≡ writes old.kernel + one_write r
 delete_makes old id (Ok v) new h = counts_each_write.remove old.kernel new.kernel h.container.group (Ok tt) h.removed
 delete_makes old id (Err (Kernel fault)) new h = counts_each_write.remove old.kernel new.kernel h.1.container.group (Err fault) h.1.removed
 delete_makes old id (Err Busy) new h = kept_writes old new h.1

@@ -6,7 +6,7 @@ use Rattle.cpu_set.specs.Ids.{Ids, IsDisjoint}
 use Rattle.cpuset_tree.specs.declared.Group.{Group}
 use Rattle.cpuset_tree.specs.Groups.{same_group}
 use Rattle.kernel_model.specs.declared.KernelFault.{KernelFault}
-use Rattle.kernel_model.specs.KernelState.{KernelState}
+use Rattle.kernel_model.specs.KernelState.{KernelState, writes}
 use Rattle.apply_plan.specs.declared.scan.Write.{Write}
 use Rattle.apply_plan.specs.Targets.{Targets}
 use Rattle.apply_plan.specs.DueWrite.{due}
@@ -49,19 +49,19 @@ writes_of_moves order old total r new m =
 -- how often a live container is written that is to have these CPUs. One that requests them already is not at all. One that
 -- lets nothing go but reserved CPUs, as it only gets more, is written once at most. So is one that only lets go, none of them
 -- reserved. No other is written more than twice.
-pub record IsLittleWritten (k : KernelState) (reserved : Ids) (writes : List Write) (p : Target) : Type 0 where
-  pub stays : requested_by k p.0 ≡ p.1 → times_written p.0.1.group writes ≡ 0
-  pub grows : set.is_subset (set.difference (requested_by k p.0) p.1) reserved ≡ true → times_written p.0.1.group writes ≤ 1
+pub record IsLittleWritten (k : KernelState) (reserved : Ids) (these : List Write) (p : Target) : Type 0 where
+  pub stays : requested_by k p.0 ≡ p.1 → times_written p.0.1.group these ≡ 0
+  pub grows : set.is_subset (set.difference (requested_by k p.0) p.1) reserved ≡ true → times_written p.0.1.group these ≤ 1
   pub shrinks : set.is_subset p.1 (requested_by k p.0) ≡ true → IsDisjoint (set.difference (requested_by k p.0) p.1) reserved
-      → times_written p.0.1.group writes ≤ 1
-  pub most : times_written p.0.1.group writes ≤ 2
+      → times_written p.0.1.group these ≤ 1
+  pub most : times_written p.0.1.group these ≤ 2
 
 -- the writes of a hand-over to these sets. They are all that the kernel counted, each is of a live container, and each of
 -- these is written so little.
-pub record WritesLittle (old : NodeState) (sets : List Ids) (writes : List Write) (new : NodeState) : Type 0 where
-  pub all : new.kernel.writes ≡ old.kernel.writes + length writes
-  pub each : AllByRecursion (IsLittleWritten old.kernel old.machine.reserved writes) (plan_targets old sets)
-  pub others : (g : Group) → AllByRecursion (λ p. same_group p.0.1.group g ≡ false) (plan_targets old sets) → times_written g writes ≡ 0
+pub record WritesLittle (old : NodeState) (sets : List Ids) (these : List Write) (new : NodeState) : Type 0 where
+  pub all : writes new.kernel ≡ writes old.kernel + length these
+  pub each : AllByRecursion (IsLittleWritten old.kernel old.machine.reserved these) (plan_targets old sets)
+  pub others : (g : Group) → AllByRecursion (λ p. same_group p.0.1.group g ≡ false) (plan_targets old sets) → times_written g these ≡ 0
 
 -- a rebalance to a plan writes so little in either order, whether it comes to its end or a write fails
 abbrev pub RebalancesWriteLittle : Type 0

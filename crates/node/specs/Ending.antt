@@ -9,7 +9,7 @@ use Rattle.node.specs.IsNode.{IsNode}
 use Rattle.node.specs.Orders.{left_of}
 use Rattle.node.specs.Rebalance.{StepsOn}
 use Rattle.node.specs.Machine.{Event, Run}
-use Rattle.node.specs.Machine.Event.{StepOn}
+use Rattle.node.specs.Machine.Event.{StepOn, MissOn}
 
 -- one for a step of a hand-over, and none for any other event
 abbrev pub step_in : Event → ℕ
@@ -21,9 +21,10 @@ abbrev pub steps_in : List Event → ℕ
 steps_in [] = 0
 steps_in (event ∷ later) = step_in event + steps_in later
 
--- a step answers that more are to come
+-- a step answers that more are to come, and no other write fails
 abbrev pub IsMore : Event → Type 0
 IsMore (StepOn answer) = answer ≡ Ok More
+IsMore (MissOn fault) = ⊥
 IsMore event = Unit {0}
 
 -- the hand-over is still open. Each step made one write less to come, in the direct order one or more, and nothing one more. At

@@ -4,7 +4,7 @@ use Rattle.cpuset_tree.specs.declared.Group.{Group}
 use Rattle.cpuset_tree.specs.Groups.{entry_of, child_of}
 use Rattle.proctable.specs.Processes.{count_in}
 use Rattle.kernel_model.specs.declared.KernelFault.TheVariants.{NoPids}
-use Rattle.kernel_model.specs.Cases.{is_failed}
+use Rattle.kernel_model.specs.Trace.{is_failed}
 use Rattle.kernel_model.specs.KernelState.{KernelState}
 use Rattle.faults.specs.declared.OrMemory.{OrMemory}
 use Rattle.faults.specs.declared.OrMemory.TheVariants.{Memory, Fault}

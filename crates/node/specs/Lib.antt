@@ -27,6 +27,7 @@ pub mod Tells
 pub mod BreaksOff
 pub mod RebalanceLeaves
 pub mod Written
+pub mod RebalancesBy
 pub mod Asking
 pub mod WithoutCores
 pub mod Proved
@@ -34,6 +35,8 @@ pub mod Questions
 pub mod Standing
 pub mod Disturbs
 pub mod Machine
+pub mod Told
+pub mod ToldLemmas
 pub mod Retries
 pub mod Said
 pub mod Served

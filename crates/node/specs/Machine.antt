@@ -27,12 +27,13 @@ use Rattle.node.specs.IsNode.{IsMachine, IsOfMachine, IsNode}
 use Rattle.node.specs.Unused.{IsUnused}
 use Rattle.node.specs.Updates.{Updates}
 use Rattle.node.specs.Calls.{Opens, Creates, Adopts, Starts, Kills, Deletes}
-use Rattle.node.specs.Rebalance.{Begins, StepsOn, Writes, Rebalances, Moves}
+use Rattle.node.specs.Rebalance.{Begins, StepsOn, Writes, Misses, Rebalances, Moves}
 use Rattle.node.specs.Questions.{Question, Answers}
 use Rattle.node.specs.RebalanceLeaves.{RebalanceLeaves}
 
 -- a call with its answer, or an event of the kernel with its answer; after the calls that may change something those that
--- only read, as one. `WriteOn` is no call of its own: it is one of the writes that a rebalance makes.
+-- only read, as one. `WriteOn` and `MissOn` are no calls of their own: they are one of the writes that a rebalance makes, and one
+-- that fails, by which it ends.
 pub data Event : Type 0 where
   Create : List ℕ → List ℕ → List ℕ → Result ℕ (OrMemory NodeFault) → Event
   Adopt : List ℕ → List ℕ → List ℕ → Ids → Result ℕ (OrMemory NodeFault) → Event
@@ -44,6 +45,7 @@ pub data Event : Type 0 where
   Begin : Order → Result Outcome (OrMemory NodeFault) → Event
   StepOn : Result Progress NodeFault → Event
   WriteOn : Event
+  MissOn : KernelFault → Event
   Ask : Question → Event
   Fork : ℕ → Result ℕ (OrMemory KernelFault) → Event
   Exit : ℕ → Result (Unit {0}) KernelFault → Event
@@ -66,6 +68,7 @@ Step old (Rebalance order answer) new = Rebalances order old answer new
 Step old (Begin order answer) new = Begins order old answer new
 Step old (StepOn answer) new = StepsOn old answer new
 Step old WriteOn new = Writes old new
+Step old (MissOn fault) new = Misses old fault new
 Step old (Ask question) new = Answers old question × (new ≡ old)
 Step old (Fork parent answer) new = Forks old.kernel parent answer new.kernel × InKernel old new
 Step old (Exit pid answer) new = Exits old.kernel pid answer new.kernel × InKernel old new
@@ -103,6 +106,7 @@ RunsStayApart =
 abbrev pub IsOneWrite : Event → Type 0
 IsOneWrite (StepOn answer) = Unit {0}
 IsOneWrite WriteOn = Unit {0}
+IsOneWrite (MissOn fault) = Unit {0}
 IsOneWrite event = ⊥
 
 -- a rebalance that hands over leaves what `begin`, which writes nothing, and then single writes leave. What holds after each

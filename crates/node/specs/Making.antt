@@ -9,7 +9,8 @@ use Rattle.cpuset_tree.specs.Groups.{child_of, requested_cpus}
 use Rattle.proctable.specs.declared.TheConstants.{LAST_PID}
 use Rattle.kernel_model.specs.declared.KernelFault.{KernelFault}
 use Rattle.kernel_model.specs.declared.KernelFault.TheVariants.{NoSerials, NoPids, Failed}
-use Rattle.kernel_model.specs.KernelState.{KernelState, counted}
+use Rattle.kernel_model.specs.Trace.{MadeGroup}
+use Rattle.kernel_model.specs.KernelState.{KernelState, recorded}
 use Rattle.kernel_model.specs.Cases.{MakesGroup, WritesCpus, WritesMems, Spawns}
 use Rattle.faults.specs.declared.OrMemory.{OrMemory}
 use Rattle.faults.specs.declared.OrMemory.TheVariants.{Memory, Fault}
@@ -100,12 +101,12 @@ PlacesStaySafe =
     → AllByRecursion (λ k. IsSafe k k.reserved (map (λ o. o.holder) (owners_of new.containers))) (place_states cpus old id bundle config r new made)
 
 -- what a refusal of the kernel can be, of a `create` or an `adopt` against which nothing stood. A write failed, which is
--- counted. Or no serial was left for a group of this id, and there was none; then all is as before but the count of writes.
+-- counted. Or no serial was left for a group of this id, and there was none; then all is as before but that the call is told.
 -- Or no pid was left; then all is as before.
 abbrev pub LateCause : NodeState → List ℕ → KernelFault → NodeState → Type 0
 LateCause old id Failed new = new.kernel.failures ≡ old.kernel.failures + 1
 LateCause old id NoSerials new =
-    (child_of old.kernel.tree old.parent id ≡ None) × (old.kernel.tree.next_serial ≡ SERIAL_LIMIT) × (new ≡ record old { kernel = counted old.kernel })
+    (child_of old.kernel.tree old.parent id ≡ None) × (old.kernel.tree.next_serial ≡ SERIAL_LIMIT) × (new ≡ record old { kernel = recorded (MadeGroup old.parent id (Err (Fault NoSerials))) old.kernel })
 LateCause old id NoPids new = (LAST_PID < old.kernel.table.next_pid) × (new ≡ old)
 LateCause old id fault new = ⊥
 

@@ -1,13 +1,14 @@
 -- What a step of a hand-over is in each order, and what it leaves to do.
-use Rattle.std.specs.Prelude.{◌≡◌, ℕ, ◌+◌, ◌≤◌, Some, Result, Ok}
+use Rattle.std.specs.Prelude.{◌≡◌, ℕ, ◌+◌, ◌≤◌, Some, Result, Ok, Err}
 use Rattle.kernel_model.specs.declared.KernelFault.{KernelFault}
+use Rattle.kernel_model.specs.declared.KernelFault.TheVariants.{Failed}
 use Rattle.kernel_model.specs.KernelState.{KernelState}
 use Rattle.machine.specs.Layout.{Layout}
 use Rattle.apply_plan.specs.declared.Progress.{Progress}
 use Rattle.apply_plan.specs.declared.Progress.TheVariants.{More}
 use Rattle.apply_plan.specs.Targets.{Targets}
 use Rattle.apply_plan.specs.declared.scan.Write.{Write}
-use Rattle.apply_plan.specs.DueWrite.{Steps, written, writes_to_come, made_by_step}
+use Rattle.apply_plan.specs.DueWrite.{Steps, written, missed, writes_to_come, made_by_step}
 use Rattle.apply_plan.specs.Finishes as turn
 use Rattle.apply_plan.specs.MayWrite.{left_directly}
 use Rattle.apply_plan.specs.Directed.{Directed}
@@ -32,6 +33,13 @@ StepsBy Directly m o old r new = StepsDirectly (directed_of o) (least_cores m) o
 abbrev pub WritesBy : Order → Layout → Ongoing → KernelState → KernelState → Type 0
 WritesBy InTurn m o old new = Steps o.targets old (Ok More) new
 WritesBy Directly m o old new = (w : Write) × MayFollow (directed_of o) (least_cores m) old w × (new ≡ written old (Some w))
+
+-- one of them that fails, by which they end: in turn that of a step; directly one that might have followed. It is told and counted,
+-- and nothing else changes.
+abbrev pub MissesBy : Order → Layout → Ongoing → KernelState → KernelFault → KernelState → Type 0
+MissesBy InTurn m o old fault new = Steps o.targets old (Err fault) new
+MissesBy Directly m o old fault new =
+    (fault ≡ Failed) × ((w : Write) × MayFollow (directed_of o) (least_cores m) old w × (new ≡ missed (Some w) old))
 
 -- all writes of a hand-over that are made at once: in turn those of steps; directly any of which each is such a write
 abbrev pub FinishesBy : Order → Layout → Ongoing → KernelState → Result (Unit {0}) KernelFault → KernelState → Type 0

@@ -32,7 +32,7 @@ use Rattle.node.specs.IsNode.{IsKept}
 use Rattle.node.specs.Rows.{as_cpus, rows_of, scaled_rows_of, planned, lacking}
 use Rattle.node.specs.Best.{moved, IsBest}
 use Rattle.node.specs.Entries.{plan_pool, opened}
-use Rattle.node.specs.Orders.{StepsBy, WritesBy, FinishesBy}
+use Rattle.node.specs.Orders.{StepsBy, WritesBy, MissesBy, FinishesBy}
 
 -- what a node's scaled rows come to as a plan of cores. Their CPUs are the best sets that the containers could have. It is a
 -- least plan of these rows, with the cores' distance and their moves as its total.
@@ -121,6 +121,13 @@ pub record Writes (old new : NodeState) : Type 0 where
   pub was : old.ongoing ≡ Some handover
   pub writes : WritesBy handover.order old.machine handover old.kernel new.kernel
   pub is : new ≡ record old { kernel = new.kernel }
+
+-- one of them that fails, by which the hand-over ends
+pub record Misses (old : NodeState) (fault : KernelFault) (new : NodeState) : Type 0 where
+  pub handover : Ongoing
+  pub was : old.ongoing ≡ Some handover
+  pub misses : MissesBy handover.order old.machine handover old.kernel fault new.kernel
+  pub is : new ≡ record old { kernel = new.kernel; phase = Unsettled; ongoing = None }
 
 -- how a hand-over stands after its writes
 abbrev pub phase_after : Result (Unit {0}) KernelFault → Phase

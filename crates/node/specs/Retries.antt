@@ -4,6 +4,7 @@ use Rattle.std.specs.List.{AllByRecursion, list_any}
 use Rattle.faults.specs.declared.OrMemory.{OrMemory}
 use Rattle.faults.specs.declared.OrMemory.TheVariants.{Memory, Fault}
 use Rattle.kernel_model.specs.declared.KernelFault.TheVariants.{Failed}
+use Rattle.kernel_model.specs.KernelState.{writes}
 use Rattle.node.specs.declared.fault.NodeFault.{NodeFault}
 use Rattle.node.specs.declared.fault.NodeFault.TheVariants.{Kernel}
 use Rattle.node.specs.declared.order.Order.{Order}
@@ -39,7 +40,7 @@ pub record RetriesLeave (old : NodeState) (answers : List Answer) (new : NodeSta
   pub each : AllByRecursion IsAnswerOrFailed answers
   pub counted : new.kernel.failures ≡ old.kernel.failures + failed_in answers
   pub ends : new.kernel.failures < old.kernel.failures + length answers → list_any is_answer answers ≡ true
-  pub few : new.kernel.writes ≤ old.kernel.writes + failed_in answers + (failed_in answers + 1) * (2 * live_count old)
+  pub few : writes new.kernel ≤ writes old.kernel + failed_in answers + (failed_in answers + 1) * (2 * live_count old)
 
 -- rebalances in a row, each in its order and with its answer, leave that, if no hand-over is open before them
 abbrev pub RetriesEnd : Type 0

@@ -12,6 +12,7 @@ use Rattle.proctable.specs.TableState.{TableState}
 use Rattle.faults.specs.declared.OrMemory.{OrMemory}
 use Rattle.faults.specs.declared.OrMemory.TheVariants.{Memory}
 use Rattle.kernel_model.specs.declared.KernelFault.{KernelFault}
+use Rattle.kernel_model.specs.Trace.{MadeGroup}
 use Rattle.kernel_model.specs.KernelState.{KernelState, IsFirstKernel}
 use Rattle.kernel_model.specs.Cases.{MakesGroup, MakesGroupOf}
 use Rattle.kernel_model.specs.CaseLemmas.{GrowingWrites-answers}
@@ -72,7 +73,7 @@ first_wants_memory present reserved online nodes first_pid k error new h (root, 
     let free : kernel.make_refusal k root (codes "numarun") ≡ None =
     subst (λ (g : Group). kernel.make_refusal k g (codes "numarun") ≡ None) same (rw (h.first_tree.is, free_below h.first_tree.root online nodes (codes "numarun") h.first_tree.serial) refl) in
     let makes : MakesGroup k root (codes "numarun") (Err error) new = subst (λ (o : Option Group). FindsOr o k root (codes "numarun") (Err error) new) alone finds in
-    GrowingWrites-answers (kernel.make_refusal k root (codes "numarun")) (MakesGroupOf k root (codes "numarun")) k
+    GrowingWrites-answers (kernel.make_refusal k root (codes "numarun")) (MakesGroupOf k root (codes "numarun")) k (MadeGroup root (codes "numarun"))
     (λ r s. IfErr r (λ e. s.failures ≡ 0 → e ≡ Memory))
     (λ g s _ _. record {}) (λ _. refl) (λ zero. absurd (omega (arith, zero)))
     (λ fault _ against _. absurd (none-some fault (sym free ∙ against)))

@@ -4,7 +4,7 @@ use Rattle.faults.specs.declared.OrMemory.{OrMemory}
 use Rattle.faults.specs.declared.OrMemory.TheVariants.{Fault}
 use Rattle.cpuset_tree.specs.declared.Group.{Group}
 use Rattle.cpuset_tree.specs.Groups.{child_of, root_of}
-use Rattle.kernel_model.specs.KernelState.{KernelState}
+use Rattle.kernel_model.specs.KernelState.{KernelState, writes}
 use Rattle.apply_plan.specs.DueWrite.{writes_to_come}
 use Rattle.apply_plan.specs.MayWrite.{left_directly}
 use Rattle.node.specs.declared.fault.NodeFault.{NodeFault}
@@ -27,7 +27,7 @@ one_write (Err fault) = 0
 -- a node over a kernel makes one writing call if its group is not there yet, whatever that answers, and else none
 abbrev pub OpenWrites : KernelState → KernelState → Type 0
 OpenWrites old new =
-    (root : Group) × (root_of old.tree ≡ Some root) × (new.writes ≡ old.writes + cond (is_some (child_of old.tree root (codes "numarun"))) 0 1)
+    (root : Group) × (root_of old.tree ≡ Some root) × (writes new ≡ writes old + cond (is_some (child_of old.tree root (codes "numarun"))) 0 1)
 
 -- a launch makes the group if it is not there, writes its CPUs and its memory nodes, and makes a process in it
 abbrev pub launch_writes : KernelState → Group → List ℕ → ℕ
@@ -35,8 +35,8 @@ launch_writes k parent name = cond (is_some (child_of k.tree parent name)) 0 1 +
 
 -- `create` and `adopt` make the writes of a launch; if they are not done they make some of these, or none
 abbrev pub CreateWrites : NodeState → List ℕ → Result ℕ (OrMemory NodeFault) → NodeState → Type 0
-CreateWrites old id (Ok pid) new = new.kernel.writes ≡ old.kernel.writes + launch_writes old.kernel old.parent id
-CreateWrites old id (Err error) new = new.kernel.writes ≤ old.kernel.writes + launch_writes old.kernel old.parent id
+CreateWrites old id (Ok pid) new = writes new.kernel ≡ writes old.kernel + launch_writes old.kernel old.parent id
+CreateWrites old id (Err error) new = writes new.kernel ≤ writes old.kernel + launch_writes old.kernel old.parent id
 
 -- how many containers are live
 abbrev pub live_count : NodeState → ℕ
@@ -46,19 +46,19 @@ live_count n = length (filter (λ e. is_live n.kernel e.1) n.containers)
 -- those that were left of it
 abbrev pub MakesThose : Order → NodeState → NodeState → Type 0
 MakesThose InTurn old new =
-    new.kernel.writes ≡ old.kernel.writes + writes_to_come (opened InTurn old (effective_sets new.kernel new.containers)).targets old.kernel
+    writes new.kernel ≡ writes old.kernel + writes_to_come (opened InTurn old (effective_sets new.kernel new.containers)).targets old.kernel
 MakesThose Directly old new =
-    new.kernel.writes ≤ old.kernel.writes + left_directly (opened Directly old (effective_sets new.kernel new.containers)).targets old.kernel
+    writes new.kernel ≤ writes old.kernel + left_directly (opened Directly old (effective_sets new.kernel new.containers)).targets old.kernel
 
 -- these are at most two for each live container
 pub record PlanWrites (order : Order) (old : NodeState) (new : NodeState) : Type 0 where
   pub exact : MakesThose order old new
-  pub few : new.kernel.writes ≤ old.kernel.writes + 2 * live_count old
+  pub few : writes new.kernel ≤ writes old.kernel + 2 * live_count old
 
 -- how many writing calls a `rebalance` in this order makes. To a plan those, and none if there is no plan. If a write fails, at most one
 -- more than two for each live container.
 abbrev pub RebalanceWrites : Order → NodeState → Result Outcome (OrMemory NodeFault) → NodeState → Type 0
 RebalanceWrites order old (Ok (Plan total)) new = PlanWrites order old new
-RebalanceWrites order old (Ok (Short wanted allowed)) new = new.kernel.writes ≡ old.kernel.writes
-RebalanceWrites order old (Err (Fault (Kernel fault))) new = new.kernel.writes ≤ old.kernel.writes + 2 * live_count old + 1
-RebalanceWrites order old (Err error) new = new.kernel.writes ≡ old.kernel.writes
+RebalanceWrites order old (Ok (Short wanted allowed)) new = writes new.kernel ≡ writes old.kernel
+RebalanceWrites order old (Err (Fault (Kernel fault))) new = writes new.kernel ≤ writes old.kernel + 2 * live_count old + 1
+RebalanceWrites order old (Err error) new = writes new.kernel ≡ writes old.kernel

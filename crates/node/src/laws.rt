@@ -21,6 +21,7 @@ ghost use Rattle.node.specs.Standing.{requested_sets, StandingPlansAreKept, Answ
 ghost use Rattle.node.specs.Status.{status_by};
 ghost use Rattle.node.specs.WithoutCores.{WithoutCores};
 ghost use Rattle.node.specs.declared.outcome.Outcome.TheVariants.{Plan};
+ghost use Rattle.node.specs.Told.{EventsAreTold, RunsAreTold};
 ghost use Rattle.node.specs.UnusedLemmas.{FirstIsUnused, FirstIsOfMachine, FirstWantsMemory};
 
 use crate::{CONTAINER_LIMIT, GROUP_NAME, NodeFault, Status};
@@ -113,6 +114,14 @@ pub fn standing_plans()
 /// is one that only lets go, none of them reserved. No other is written more than twice, and nobody else's group is.
 pub fn each_write()
     ensures { RebalancesWriteLittle }
+{}
+
+/// What the kernel was asked for. Each call of a node names the writing calls that it makes, whatever it answers, and
+/// an event of the kernel makes none (`told`). So of any list of calls and events the kernel was asked for just those
+/// of each, one after another, in their order and with their answers, and for no other (`runs`).
+pub fn each_call()
+    ensures told { EventsAreTold }
+    ensures runs { RunsAreTold }
 {}
 
 /// Retries end. If no hand-over is open and n writes fail in all, then of n + 1 rebalances in a row one answers: a

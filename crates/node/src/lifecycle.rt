@@ -1,7 +1,9 @@
 //! `start`, `kill` and `delete` (OCI Runtime Specification 1.0.2, runtime.md, "Operations").
-ghost use Rattle.std.specs.Prelude.{◌≡◌, ◌+◌};
+ghost use Rattle.std.specs.Prelude.{◌≡◌, ◌+◌, ◌++◌};
+ghost use Rattle.kernel_model.specs.KernelState.{writes};
 ghost use Rattle.node.specs.Calls.{Starts, Kills, Deletes, is_ending, is_created};
 ghost use Rattle.node.specs.Leaves.{rise_of};
+ghost use Rattle.node.specs.Told.{delete_told, kill_told};
 ghost use Rattle.node.specs.Written.{one_write};
 ghost use Rattle.node.specs.Viewed.{viewed};
 
@@ -99,8 +101,9 @@ impl<K: Kernel + Drop> Node<K> {
         // failed.
         ensures kills { Kills self.old id.now signal.now result self.new }
         ensures counted { self.new.kernel.failures ≡ self.old.kernel.failures + rise_of result }
-        // It makes one writing call, or none if the refusal is the node's own.
-        ensures made { self.new.kernel.writes ≡ self.old.kernel.writes + one_write result }
+        // It makes one writing call, the end of all processes of its group, or none if the refusal is the node's own.
+        ensures told { self.new.kernel.trace ≡ kill_told self.old id.now result ++ self.old.kernel.trace }
+        ensures made { writes self.new.kernel ≡ writes self.old.kernel + one_write result }
     {
         self.kill_body(id, signal)
     }
@@ -114,8 +117,9 @@ impl<K: Kernel + Drop> Node<K> {
         // failed.
         ensures deletes { Deletes self.old id.now result self.new }
         ensures counted { self.new.kernel.failures ≡ self.old.kernel.failures + rise_of result }
-        // It makes one writing call, or none if the refusal is the node's own.
-        ensures made { self.new.kernel.writes ≡ self.old.kernel.writes + one_write result }
+        // It makes one writing call, the removal of its group, or none if the refusal is the node's own.
+        ensures told { self.new.kernel.trace ≡ delete_told self.old id.now result ++ self.old.kernel.trace }
+        ensures made { writes self.new.kernel ≡ writes self.old.kernel + one_write result }
     {
         self.delete_body(id)
     }

@@ -8,16 +8,12 @@ ghost use Rattle.certificate_text.specs.Written.{CanWrite, IsHeld};
 ghost use Rattle.node.specs.IsNode.{ProvesItself, IsKept};
 ghost use Rattle.node.specs.Kept.{KeepsCpus};
 ghost use Rattle.node.specs.NodeState.{is_underway};
-ghost use Rattle.node.specs.Leaves.{rise_or_memory};
 ghost use Rattle.node.specs.Owners.{owners_of};
 ghost use Rattle.node.specs.Ongoing.{IsOngoing};
 ghost use Rattle.node.specs.Viewed.{seen_ongoing};
 ghost use Rattle.node.specs.declared.order.Order.TheVariants.{InTurn, Directly};
 ghost use Rattle.node.specs.declared.phase.Phase.TheVariants.{Underway};
-ghost use Rattle.node.specs.Headline.{Headline};
-ghost use Rattle.node.specs.Tells.{Tells};
-ghost use Rattle.node.specs.BreaksOff.{BreaksOff};
-ghost use Rattle.node.specs.Written.{RebalanceWrites};
+ghost use Rattle.node.specs.RebalancesBy.{RebalancesBy};
 ghost use Rattle.node.specs.Rebalance.{Begins, ComesTo, Finishes, Rebalances, WorksOut, IsNeed, ShowsCertificate};
 
 use crate::ongoing::Ongoing;
@@ -225,22 +221,11 @@ impl<K: Kernel + Drop> Node<K> {
     /// In this order: `Busy`; an allocation failure; `Failed` of the kernel: the hand-over is over, each container
     /// requests what it did before, or what it keeps of that, or its target, and the next call starts from there.
     pub fn rebalance(&mut self) -> Result<Outcome, OrMemory<NodeFault>>
-        // What the host has then (`specs/Headline.antt`).
-        ensures headline { Headline self.old result self.new }
-        // What the certificate tells of that (`specs/Tells.antt`).
-        ensures told { Tells self.old result self.new }
-        // If a write failed, each container requests what it did before, what it keeps of that, or what the plan gave
-        // it. Nothing else changed in the kernel but its counts, and the hand-over is over. The plan that it began was
-        // as good as that of `begin`, and the certificate tells it (`best` and `told` of `IsBrokenOff`).
-        ensures broken { BreaksOff InTurn self.old result self.new }
-        // It is `begin`, and what single steps until the hand-over ends would do. `Busy` and an allocation failure
-        // change nothing.
-        ensures rebalances { Rebalances InTurn self.old result self.new }
-        ensures counted { self.new.kernel.failures ≡ self.old.kernel.failures + rise_or_memory result }
-        // To a plan it makes exactly the writing calls that were to come of the hand-over to the sets then in effect.
-        // These are at most two for each live container. If a write fails, at most one more than two for each is made,
-        // and if there is no plan none.
-        ensures made { RebalanceWrites InTurn self.old result self.new }
+        // What the host has then, what the certificate tells of that, and what is left if a write failed. It is
+        // `begin`, and what single steps until the hand-over ends would do. To a plan it makes exactly the writing
+        // calls that were to come of the hand-over to the sets then in effect. These are at most two for each live
+        // container. If a write fails, at most one more than two for each is made, and if there is no plan none.
+        ensures { RebalancesBy InTurn self.old result self.new }
     {
         self.holds();
         self.rebalance_in(Order::InTurn)
@@ -257,21 +242,12 @@ impl<K: Kernel + Drop> Node<K> {
     /// Those of `rebalance`; after `Failed` each container requests none but CPUs that it requested before, of what the
     /// plan gave it, reserved or allowed to it, and all that the plan gave it and it requested before.
     pub fn rebalance_directly(&mut self) -> Result<Outcome, OrMemory<NodeFault>>
-        // The host has then what `rebalance` leaves it.
-        ensures headline { Headline self.old result self.new }
-        // The certificate tells the same.
-        ensures told { Tells self.old result self.new }
-        // If a write failed, each container requests what it may on its way. Nothing else changed in the kernel but its
-        // counts, and the hand-over is over. The plan was as good as that of `begin`, and the certificate tells it.
-        ensures broken { BreaksOff Directly self.old result self.new }
-        // It is `begin_directly`, and single writes until the hand-over ends. By each a container takes its CPUs, of
-        // which no rival has any, or it is the one that a single step makes. `Busy` and an allocation failure change
-        // nothing.
-        ensures rebalances { Rebalances Directly self.old result self.new }
-        ensures counted { self.new.kernel.failures ≡ self.old.kernel.failures + rise_or_memory result }
-        // It makes at most two writing calls for each live container. If a write fails, at most one more is made, and
-        // if there is no plan none.
-        ensures made { RebalanceWrites Directly self.old result self.new }
+        // The host has then what `rebalance` leaves it, and the certificate tells the same. If a write failed, each
+        // container requests what it may on its way. It is `begin_directly`, and single writes until the hand-over
+        // ends. By each a container takes its CPUs, of which no rival has any, or it is the one that a single step
+        // makes. It makes at most two writing calls for each live container, at most one more if a write fails, and
+        // none if there is no plan.
+        ensures { RebalancesBy Directly self.old result self.new }
     {
         self.holds();
         self.rebalance_in(Order::Directly)

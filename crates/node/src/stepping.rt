@@ -1,5 +1,6 @@
 //! The hand-over that is open, write by write.
-ghost use Rattle.std.specs.Prelude.{◌≡◌, ◌+◌, ◌*◌, ◌≤◌, length, Some, OnErr};
+ghost use Rattle.std.specs.Prelude.{◌≡◌, ◌+◌, ◌*◌, ◌++◌, ◌≤◌, length, Some, OnErr};
+ghost use Rattle.kernel_model.specs.KernelState.{writes};
 ghost use Rattle.apply_plan.specs.DueWrite.{HaveTargets};
 ghost use Rattle.apply_plan.specs.OnWay.{AreOnWay};
 ghost use Rattle.apply_plan.specs.Squeezes.{SqueezesOnlyStuck};
@@ -8,6 +9,7 @@ ghost use Rattle.node.specs.NodeState.{Ongoing};
 ghost use Rattle.node.specs.Ongoing.{IsBroken};
 ghost use Rattle.node.specs.Orders.{directed_of, left_of, FallsBy, made_by};
 ghost use Rattle.node.specs.Rebalance.{StepsOn};
+ghost use Rattle.node.specs.Told.{step_told};
 ghost use Rattle.node.specs.Leaves.{rise_of};
 ghost use Rattle.node.specs.declared.order.Order.TheVariants.{Directly};
 
@@ -57,9 +59,10 @@ impl<K: Kernel + Drop> Node<K> {
         // Each that is made is one less; in the direct order it leaves one less, or fewer.
         ensures falls { result ≡ Ok Progress.More → (o : Ongoing) → self.old.ongoing ≡ Some o
             → FallsBy o.order o.targets self.old.kernel self.new.kernel }
-        // It makes one writing call if a write is due, and else none.
+        // It makes one writing call if a write is due, that write, and else none.
+        ensures told { self.new.kernel.trace ≡ step_told self.old result ++ self.old.kernel.trace }
         ensures made { (o : Ongoing) → self.old.ongoing ≡ Some o
-            → self.new.kernel.writes ≡ self.old.kernel.writes + made_by o.order self.old.machine o self.old.kernel }
+            → writes self.new.kernel ≡ writes self.old.kernel + made_by o.order self.old.machine o self.old.kernel }
         // After the last, each live container has what the plan gave it.
         ensures done { result ≡ Ok Progress.Done → (o : Ongoing) → self.old.ongoing ≡ Some o
             → HaveTargets self.new.kernel o.targets.entries }

@@ -3,6 +3,7 @@ ghost use Rattle.std.specs.Prelude.{◌≡◌, ◌+◌, ◌≤◌, true, Err, If
 ghost use Rattle.cpuset_tree.specs.Groups.{has_group};
 ghost use Rattle.faults.specs.declared.OrMemory.TheVariants.{Fault};
 ghost use Rattle.node.specs.declared.fault.NodeFault.TheVariants.{Kernel};
+ghost use Rattle.kernel_model.specs.KernelState.{writes};
 ghost use Rattle.kernel_model.specs.Cases.{WritesCpus, WritesMems};
 ghost use Rattle.node.specs.Leaves.{rise_or_memory};
 ghost use Rattle.node.specs.Making.{IsAsBefore};
@@ -151,7 +152,7 @@ impl<K: Kernel + Drop> Node<K> {
         ensures updates { Updates self.old id.now bundle.now config.now result self.new }
         ensures counted { self.new.kernel.failures ≡ self.old.kernel.failures + rise_or_memory result }
         // It makes two writing calls at most.
-        ensures few { self.new.kernel.writes ≤ self.old.kernel.writes + 2 }
+        ensures few { writes self.new.kernel ≤ writes self.old.kernel + 2 }
         // It makes none if the homes stay and the container becomes shared, stays pinned or shared as it was, or
         // requests the reserved CPUs already.
         ensures none { IfOk result (λ done. WritesNoMore self.old id.now self.new) }

@@ -1,5 +1,6 @@
 use Rattle.node.proofs.CountLemmas.{kill_counts}
 use Rattle.node.proofs.WriteLemmas.{kill_makes}
+use Rattle.node.specs.ToldLemmas.{kill_is_told}
 use Rattle.node.proofs.node.Node.kill.Goals as goal
 
 pub returns : goal.returns
@@ -8,5 +9,6 @@ returns g c =
     record {
       kills = done;
       counted = kill_counts c.args.self.now c.args.id.now c.args.signal.now c.kill_body.result c.kill_body.new.self done;
+      told = kill_is_told c.args.self.now c.args.id.now c.args.signal.now c.kill_body.result c.kill_body.new.self done;
       made = kill_makes c.args.self.now c.args.id.now c.args.signal.now c.kill_body.result c.kill_body.new.self done;
     }

@@ -1,5 +1,6 @@
 use Rattle.node.proofs.OrderLemmas.{both_leave}
 use Rattle.node.proofs.StepLemmas.{says, broken_off, counts}
+use Rattle.node.specs.ToldLemmas.{step_is_told}
 use Rattle.node.proofs.node.Node.step.Goals as goal
 
 pub returns : goal.returns
@@ -13,6 +14,7 @@ returns g c =
       steps = done;
       few = c.step_body.ensures.few;
       falls = λ e o was. (says law old c.holds.ensures o was r new done).falls e;
+      told = step_is_told old r new done;
       made = λ o was. (says law old c.holds.ensures o was r new done).made;
       done = λ e o was. (says law old c.holds.ensures o was r new done).done e;
       squeezes = λ o was. (says law old c.holds.ensures o was r new done).squeezes;
