@@ -27,12 +27,12 @@ module _ {F : Type 0} (asked : F → Opening → List Asked → Type 0) (site : 
 
   pub plays_more : (finds : List ℕ → Option (List ℕ) → Type 0) (most : ℕ) (n : NodeState) (told : Told) (read read' out out' : Option (List ℕ)) (end : Result (Unit {0}) ScriptFault)
       → PlaysMirrored asked site First finds most n told read read' out out' end → PlaysMirrored asked site Then finds most n told read read' out out' end
-  plays_more finds most n told read read' out out' end (final, ends, (its, leaves)) = (final, ends, (its, follows its.mirrored.calls leaves))
+  plays_more finds most n told read read' out out' end (final, ends, (its, leaves), lines) = (final, ends, (its, follows its.mirrored.calls leaves), lines)
 
   module _ {W E : Type 0} (out : W → Option (List ℕ)) (err : E → Option (List ℕ)) (old new : Console W E) (status : ℕ) (m : Layout)
       (finds : List ℕ → Option (List ℕ) → Type 0) (told : Told) (script script' : Option (List ℕ)) where
     pub leaves_more : ScriptsMirroredAt out err old new status asked m site First finds told script script'
         → ScriptsMirroredAt out err old new status asked m site Then finds told script script'
-    leaves_more (inl (n, boots, (mid, end, (final, ends, (its, leaves)), same, finishes))) =
-        inl (n, boots, (mid, end, (final, ends, (its, follows its.mirrored.calls leaves)), same, finishes))
+    leaves_more (inl (n, boots, (mid, end, (final, ends, (its, leaves), lines), same, finishes))) =
+        inl (n, boots, (mid, end, (final, ends, (its, follows its.mirrored.calls leaves), lines), same, finishes))
     leaves_more (inr (error, boots, says, unread)) = inr (error, boots_not_more m error boots, says, unread)

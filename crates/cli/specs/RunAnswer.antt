@@ -1,11 +1,13 @@
 -- What is run of a script, and how its end is told.
-use Rattle.std.specs.Prelude.{◌≡◌, ℕ, List, Option, Some, None, Result}
+use Rattle.std.specs.Prelude.{◌≡◌, ◌++◌, ℕ, List, Option, Some, None, Result}
 use Rattle.cgroup_tree.specs.Asked.{Asked, Opening}
 use Rattle.cgroup_tree.specs.Site.{Site}
 use Rattle.node.specs.NodeState.{NodeState}
 use Rattle.runtime.specs.Answered.{AnsweredBy}
+use Rattle.runtime.specs.Found.{IsSeen}
 use Rattle.runtime.specs.MirroredNodes.{IsMirroredNode}
 use Rattle.runtime.specs.RuntimeState.{RuntimeState, Told}
+use Rattle.runtime.specs.ScriptTold.{script_told}
 use Rattle.script.specs.Ends.{EndsBy}
 use Rattle.script.specs.declared.fault.ScriptFault.{ScriptFault}
 use Rattle.script.specs.declared.fault.ScriptFault.TheVariants as fault
@@ -25,8 +27,10 @@ Plays finds most n told read read' out out' end =
     (final : RuntimeState) × EndsBy most (AnsweredBy finds) read read' out out' (record { node = n; told = told }) end final
 
 -- the script is run so over a node whose kernel's writes are made in files too. At the end all that these were asked for is
--- what the calls of the node's kernel stand for, in their order, in this place; and this holds of just these calls.
+-- what the calls of the node's kernel stand for, in their order, in this place; and this holds of just these calls. The
+-- writing calls among them are those that the script's lines stand for, line by line, behind those by which the node began.
 abbrev pub PlaysMirrored : {F : Type 0} → (F → Opening → List Asked → Type 0) → Site → (List Asked → Type 0) → (List ℕ → Option (List ℕ) → Type 0) → ℕ → NodeState → Told → Option (List ℕ) → Option (List ℕ) → Option (List ℕ) → Option (List ℕ) → Result (Unit {0}) ScriptFault → Type 0
 PlaysMirrored asked site Leaves finds most n told read read' out out' end =
-    (final : RuntimeState) × EndsBy most (AnsweredBy finds) read read' out out' (record { node = n; told = told }) end final
+    (final : RuntimeState) × (ends : EndsBy most (AnsweredBy finds) read read' out out' (record { node = n; told = told }) end final)
     × ((its : IsMirroredNode asked site final.node) × Leaves its.mirrored.calls)
+    × (final.node.kernel.trace ≡ script_told (IsSeen finds) most read read' out out' (record { node = n; told = told }) end final ends ++ n.kernel.trace)

@@ -161,24 +161,15 @@ fn cgroup<'a>(alloc: Global) -> Arg<'a>
         .help("Make each kernel write below this cgroup v2 folder too")
 }
 
-fn adopt<'a>(alloc: Global) -> Arg<'a>
-    ensures rule { rule_of result ≡ flag (codes "adopt") }
+/// An option that has no value.
+fn flag<'a>(alloc: Global, word: &'a str, help: &'a str) -> Arg<'a>
+    ensures rule { rule_of result ≡ flag word.entry.now }
     ensures local { result.global ≡ false }
 {
-    Arg::new(alloc, "adopt")
-        .long("adopt")
+    Arg::new(alloc, word)
+        .long(word)
         .action(ArgAction::SetTrue)
-        .help("With --cgroup: ROOT/numarun may be there already")
-}
-
-fn partition<'a>(alloc: Global) -> Arg<'a>
-    ensures rule { rule_of result ≡ flag (codes "partition") }
-    ensures local { result.global ≡ false }
-{
-    Arg::new(alloc, "partition")
-        .long("partition")
-        .action(ArgAction::SetTrue)
-        .help("With --cgroup: ROOT has to be a partition root")
+        .help(help)
 }
 
 fn run<'a>(alloc: Global) -> Result<Command<'a>, AllocError>
@@ -191,8 +182,16 @@ fn run<'a>(alloc: Global) -> Result<Command<'a>, AllocError>
         .arg(machine(alloc))?
         .arg(table(alloc))?
         .arg(cgroup(alloc))?
-        .arg(adopt(alloc))?
-        .arg(partition(alloc))
+        .arg(flag(
+            alloc,
+            "adopt",
+            "With --cgroup: ROOT/numarun may be there already",
+        ))?
+        .arg(flag(
+            alloc,
+            "partition",
+            "With --cgroup: ROOT has to be a partition root",
+        ))
 }
 
 fn solve<'a>(alloc: Global) -> Result<Command<'a>, AllocError>

@@ -27,6 +27,7 @@ use Rattle.apply_plan.specs.Holders.{AreApart as HoldApart}
 use Rattle.node.specs.declared.fault.NodeFault.{NodeFault}
 use Rattle.node.specs.declared.fault.NodeFault.TheVariants.{Busy, NoHandover, Kernel}
 use Rattle.node.specs.declared.order.Order.{Order}
+use Rattle.node.specs.declared.order.Order.TheVariants.{InTurn, Directly}
 use Rattle.node.specs.declared.outcome.Outcome.{Outcome}
 use Rattle.node.specs.declared.outcome.Outcome.TheVariants.{Plan, Short}
 use Rattle.node.specs.declared.phase.Phase.{Phase}
@@ -35,17 +36,17 @@ use Rattle.node.specs.Owners.{is_pinned, owner_of, owners_of}
 use Rattle.node.specs.Status.{is_live}
 use Rattle.node.specs.IsNode.{IsMachine, HaveOtherIds, IsAsked, IsNode}
 use Rattle.node.specs.Ongoing.{Stands}
-use Rattle.node.specs.Orders.{StepsBy, WritesBy}
+use Rattle.node.specs.Orders.{StepsBy, WritesBy, MissesBy}
 use Rattle.node.specs.Best.{AreOwn, asking, wanted_by}
 use Rattle.node.specs.Rows.{as_cpus}
 use Rattle.node.specs.Entries.{plan_pool, opened}
 use Rattle.node.specs.MayRequest.{MayRequest}
 use Rattle.node.specs.Updates.{Updates, update_states}
 use Rattle.node.specs.Calls.{Places, Ended, Kills, Removed, Deletes}
-use Rattle.node.specs.Rebalance.{Begun, Begins, StepsOn, Stepped, Writes, Moves, Rebalances}
+use Rattle.node.specs.Rebalance.{Begun, Begins, StepsOn, Stepped, Writes, Misses, Moves, Rebalances}
 use Rattle.node.specs.Making.{IsOneCall, AreCalls, place_states, PlacesAreCalls, PlacesStaySafe, UpdatesAreCalls, UpdatesStaySafe}
 use Rattle.node.specs.Making.IsOneCall.{Makes, Cpus, Mems, Process}
-use Rattle.node.specs.Machine.{Event, Create, Adopt, Update, Start, Kill, Delete, Rebalance, Begin, StepOn, WriteOn, Ask, Fork, Exit, Offline, Online, InKernel, Step, Run, RunsKeep, RebalancesAreWrites, IsOneWrite}
+use Rattle.node.specs.Machine.{Event, Create, Adopt, Update, Start, Kill, Delete, Rebalance, Begin, StepOn, WriteOn, MissOn, Ask, Fork, Exit, Offline, Online, InKernel, Step, Run, RunsKeep, RebalancesAreWrites, IsOneWrite}
 use Rattle.runtime.specs.declared.booting.TheConstants.{FIRST_PID}
 use Rattle.runtime.specs.Boots.{Boots, BootsNodes}
 use Rattle.restarts.specs.Left.{Left, left_of, left_in, IsLeft, AreApart, AreLeft, IsAmong}
@@ -229,6 +230,20 @@ module _ (m : Layout) (layout : IsMachine m) (keep : RunsKeep) where
         (subst (λ (o : Option Ongoing). IfSome o (λ x. AllByRecursion (TargetThere m) x.targets.entries)) s.was h.ongoing)
         (subst (λ (x : Layout). WritesBy s.handover.order x s.handover old.kernel new.kernel) h.machine s.writes) h.all
 
+  -- one of them that fails
+  miss_same : (order : Order) (layout : Layout) (o : Ongoing) (old : KernelState) (fault : KernelFault) (new : KernelState) → MissesBy order layout o old fault new
+      → new.tree ≡ old.tree
+  miss_same InTurn layout o old fault new s = ap (λ (k : KernelState). k.tree) s.1
+  miss_same Directly layout o old fault new s = ap (λ (k : KernelState). k.tree) s.1.2
+
+  miss_known : (old new : NodeState) (fault : KernelFault) → Known m old → IsNode new → Misses old fault new → Known m new
+  miss_known old new fault h node s = record {
+    node = node;
+    machine = ap machine_of s.is ∙ h.machine;
+    all = tree_same m old.kernel new.kernel (miss_same s.handover.order old.machine s.handover old.kernel fault new.kernel s.misses) h.all;
+    ongoing = subst (λ (o : Option Ongoing). IfSome o (λ x. AllByRecursion (TargetThere m) x.targets.entries)) (sym (ap ongoing_of s.is)) tt;
+  }
+
   -- writes and steps alone, and a rebalance
   writes_known : (writes : List Event) (old new : NodeState) → AllByRecursion IsOneWrite writes → Known m old → Run old writes new → Known m new
   writes_known [] old new only h run = as_before old new h run
@@ -236,6 +251,8 @@ module _ (m : Layout) (layout : IsMachine m) (keep : RunsKeep) where
       writes_known writes mid new only.1 (step_known old mid answer h (kept old mid (StepOn answer) h step) step) run
   writes_known (WriteOn ∷ writes) old new only h (mid, step, run) =
       writes_known writes mid new only.1 (write_known old mid h (kept old mid WriteOn h step) step) run
+  writes_known (MissOn fault ∷ writes) old new only h (mid, step, run) =
+      writes_known writes mid new only.1 (miss_known old mid fault h (kept old mid (MissOn fault) h step) step) run
   writes_known (event ∷ writes) old new only h run = absurd only.0
 
   moves_known : RebalancesAreWrites → (order : Order) (old new : NodeState) (total : ℕ) (r : Result (Unit {0}) KernelFault) → Known m old → Moves order old total r new → Known m new
@@ -284,6 +301,7 @@ module _ (m : Layout) (layout : IsMachine m) (keep : RunsKeep) where
   one_known single (Begin order r) old new h node step = begin_known order old new r h node step
   one_known single (StepOn r) old new h node step = step_known old new r h node step
   one_known single WriteOn old new h node step = write_known old new h node step
+  one_known single (MissOn fault) old new h node step = miss_known old new fault h node step
   one_known single (Ask question) old new h node step = as_before old new h step.1
   one_known single (Fork pid r) old new h node step = in_kernel old new h node (events_keep_groups.fork old.kernel new.kernel pid r step.0).0.groups step.1
   one_known single (Exit pid r) old new h node step = in_kernel old new h node (events_keep_groups.exit old.kernel new.kernel pid r step.0).0.groups step.1

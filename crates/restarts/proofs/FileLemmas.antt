@@ -16,6 +16,7 @@ use Rattle.cpuset_tree.specs.Places.{place_of}
 use Rattle.cpuset_tree.specs.TreeChanges.{with_cpus}
 use Rattle.kernel_model.specs.declared.KernelFault.{KernelFault}
 use Rattle.kernel_model.specs.declared.KernelFault.TheVariants.{Failed}
+use Rattle.kernel_model.specs.Trace.{MadeGroup, RemovedGroup, WroteCpus, WroteMems, Spawned, EndedGroup}
 use Rattle.kernel_model.specs.KernelState.{KernelState}
 use Rattle.kernel_model.specs.RefusalLemmas.{calls_are_free}
 use Rattle.kernel_model.specs.NameLemmas.{none_of_name}
@@ -30,7 +31,7 @@ use Rattle.cgroup_tree.specs.StandingLemmas.{writes_stand}
 use Rattle.cgroup_tree.specs.ChangeLemmas.{passed_on, unmade, looked}
 use Rattle.cgroup_tree.specs.ApartLemmas.{plain_names_apart, one_folder_there, entry_placed, some_of}
 use Rattle.cgroup_tree.specs.PastLemmas.{Kept, placed_free, past_kept, pasts_stand}
-use Rattle.cgroup_tree.specs.Events.{Event, MadeGroup, RemovedGroup, WroteCpus, WroteMems, Spawned, EndedGroup, Forked, Exited, WentOffline, CameOnline, Happens, IsAsked, IsAskedAt, AreAsked, AreAskedAndLooked, AsksFor, Past}
+use Rattle.cgroup_tree.specs.Events.{Event, Wrote, Forked, Exited, WentOffline, CameOnline, Happens, IsAsked, IsAskedAt, AreAsked, AreAskedAndLooked, AsksFor, Past}
 use Rattle.restarts.specs.Files.{AtEachMoment, MomentsStand, IsFileOf, FilesNameCpus}
 
 module _ (root : List ℕ) (memory : Ids) (partition : Bool) (old new : KernelState) (before : List Asked) (was : Kept root memory old before) where
@@ -115,12 +116,12 @@ module _ (root : List ℕ) (memory : Ids) (partition : Bool) (old new : KernelSt
       makes (Err (Fault fault)) h are named = none are
 
     each : (event : Event) → Happens old event new → AsksFor root memory partition old event new these → AtEachMoment Stood these
-    each (MadeGroup parent name r) h are = makes parent name r h are.0 are.1
-    each (RemovedGroup g r) h are = asked _ r are
-    each (WroteCpus g ids r) h are = cpus g ids r _ _ h are
-    each (WroteMems g mems r) h are = asked _ r are
-    each (EndedGroup g r) h are = asked_at (place_of old.tree g) _ r are
-    each (Spawned g r) h are = none are
+    each (Wrote (MadeGroup parent name r)) h are = makes parent name r h are.0 are.1
+    each (Wrote (RemovedGroup g r)) h are = asked _ r are
+    each (Wrote (WroteCpus g ids r)) h are = cpus g ids r _ _ h are
+    each (Wrote (WroteMems g mems r)) h are = asked _ r are
+    each (Wrote (EndedGroup g r)) h are = asked_at (place_of old.tree g) _ r are
+    each (Wrote (Spawned g r)) h are = none are
     each (Forked pid r) h are = none are
     each (Exited pid r) h are = none are
     each (WentOffline cpu r) h are = none are

@@ -30,7 +30,7 @@ use Rattle.node.specs.Rows.{as_cores, as_cpus, planned, lacking}
 use Rattle.node.specs.Updates.{Updates}
 use Rattle.node.specs.Calls.{Places, Starts, Kills, Deletes}
 use Rattle.node.specs.Rebalance.{Begins, StepsOn, Rebalances, ShowsCertificate}
-use Rattle.node.specs.Machine.{Event, Create, Adopt, Update, Start, Kill, Delete, Rebalance, Begin, StepOn, WriteOn, Ask, Fork, Exit, Offline, Online, Step, Run, RunsKeep, RunsRebalance}
+use Rattle.node.specs.Machine.{Event, Create, Adopt, Update, Start, Kill, Delete, Rebalance, Begin, StepOn, WriteOn, MissOn, Ask, Fork, Exit, Offline, Online, Step, Run, RunsKeep, RunsRebalance}
 use Rattle.node.specs.Proved.{LastIsProved, TotalIsProved, ShortIsProved}
 use Rattle.runtime.specs.AnswerTexts.{answer_text}
 use Rattle.runtime.specs.declared.refusal.Refusal.TheVariants.{Node}
@@ -155,6 +155,7 @@ module _ (keep : RunsKeep) (leaves : RunsRebalance) (last_proved : LastIsProved)
   told_more told old (Begin order answer) new node after s h = begin_told order told old new answer node after s h
   told_more told old (StepOn answer) new node after s h = still_told told old new (step_last old new answer s) h
   told_more told old WriteOn new node after s h = still_told told old new (ap (λ (n : NodeState). n.last) s.is) h
+  told_more told old (MissOn fault) new node after s h = still_told told old new (ap (λ (n : NodeState). n.last) s.is) h
   told_more told old (Ask question) new node after s h = still_told told old new (ap (λ (n : NodeState). n.last) s.1) h
   told_more told old (Fork parent answer) new node after s h = still_told told old new (ap (λ (n : NodeState). n.last) s.1) h
   told_more told old (Exit pid answer) new node after s h = still_told told old new (ap (λ (n : NodeState). n.last) s.1) h

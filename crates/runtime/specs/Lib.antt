@@ -10,4 +10,6 @@ pub mod ScriptLaws
 pub mod ConfigsServed
 pub mod CertificatesTold
 pub mod MirroredNodes
+pub mod ScriptTold
+pub mod ScriptToldLemmas
 pub mod Partition

@@ -22,7 +22,7 @@ use Rattle.node.specs.IsNode.{IsNode}
 use Rattle.node.specs.Listed.{listing}
 use Rattle.node.specs.NodeState.{NodeState}
 use Rattle.node.specs.Rebalance.{Begins, Begun}
-use Rattle.node.specs.Machine.{Event, Create, Adopt, Update, Start, Kill, Delete, Rebalance, Begin, StepOn, WriteOn, Ask, Fork, Exit, Offline, Online, Step, Run, RunsRebalance}
+use Rattle.node.specs.Machine.{Event, Create, Adopt, Update, Start, Kill, Delete, Rebalance, Begin, StepOn, WriteOn, MissOn, Ask, Fork, Exit, Offline, Online, Step, Run, RunsRebalance}
 use Rattle.node.specs.Questions.{Question, State, ListAll, SetsOf, Pool, PhaseIs, ShowCertificate}
 use Rattle.script.specs.Commands.{Asked}
 use Rattle.script.specs.Commands as ask
@@ -59,6 +59,7 @@ event_text new (Rebalance order answer) = answer_text (outcome_text new) of_eith
 event_text new (Begin order answer) = answer_text (outcome_text new) of_either answer
 event_text new (StepOn answer) = answer_text progress_line Node answer
 event_text new WriteOn = []
+event_text new (MissOn fault) = []
 event_text new (Ask question) = question_text question
 event_text new (Fork parent answer) = answer_text pid_line of_kernel answer
 event_text new (Exit pid answer) = answer_text done_line of_kernel_fault answer
@@ -215,7 +216,7 @@ Run-append : (old mid new : NodeState) (first later : List Event) → Run old fi
 Run-append old mid new [] later e run = subst (λ n. Run n later new) e run
 Run-append old mid new (event ∷ first) later (next, step, rest) run = (next, step, Run-append next mid new first later rest run)
 
-is_call : (sees : Sees) (old : NodeState) (command : Asked) (text : List ℕ) (new : NodeState) → AnswersBy sees old command text new
+pub is_call : (sees : Sees) (old : NodeState) (command : Asked) (text : List ℕ) (new : NodeState) → AnswersBy sees old command text new
     → IsCall sees command old text new ⊎ IsNoCall sees command old text new
 is_call sees old (ask.create id bundle) text new (inl h) = inr (inl h.0, h.1)
 is_call sees old (ask.create id bundle) text new (inr (None, found, h)) = inr (inr (h.0, found), h.1)

@@ -8,7 +8,7 @@ ghost use Rattle.node.specs.Questions.{ListAll, PhaseIs, SetsOf};
 ghost use Rattle.runtime.specs.Boots.{BootsNodes};
 ghost use Rattle.runtime.specs.CertificatesTold.{CertificatesAreTold};
 ghost use Rattle.runtime.specs.ConfigsServed.{ScriptsServeConfigs};
-ghost use Rattle.runtime.specs.Found.{IsFound};
+ghost use Rattle.runtime.specs.Found.{IsFound, IsSeen};
 ghost use Rattle.runtime.specs.LooksTold.{LooksAreTold};
 ghost use Rattle.runtime.specs.OutcomeTexts.{container_lines, first_line};
 ghost use Rattle.runtime.specs.Partition.{PartitionsKeepOthersOff};
@@ -16,6 +16,7 @@ ghost use Rattle.runtime.specs.RefusalLine.{refusal_line};
 ghost use Rattle.runtime.specs.ScriptLaws.{BegunAreTold, BegunShortAreTold, CommandsAreCalls, LinesAreCalls};
 ghost use Rattle.runtime.specs.ScriptLaws.{PlansAreTold, RebalancesAreTold, ScriptsRebalance, ShortagesAreTold};
 ghost use Rattle.runtime.specs.ScriptLaws.{event_text};
+ghost use Rattle.runtime.specs.ScriptTold.{BootsAreTold, ScriptsAreTold};
 
 use crate::{Bundles, FIRST_PID, Refusal};
 use certificate::Weights;
@@ -76,6 +77,14 @@ pub fn scripts_serve_configs<B: Bundles>()
     node::laws::each_rebalance();
     node::laws::what_configs_get();
 }
+
+/// However a script ends, the kernel was asked for just the writing calls that its lines stand for, line by line, in
+/// order and with their answers, and for no other (`lines`). Before the first line it was asked to make the group of
+/// all containers, and for nothing else (`first`).
+pub fn scripts_are_told<B: Bundles>()
+    ensures lines { ScriptsAreTold (IsSeen B.finds) }
+    ensures first { BootsAreTold }
+{}
 
 /// The text that answers `certificate` proves the verdict on what was told last. Of a plan that is its total, and how
 /// many cores it moves. Of a shortage it is its numbers.

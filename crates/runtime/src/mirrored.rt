@@ -38,8 +38,8 @@ pub fn run_mirrored<F: GroupFiles + Drop, S: Sited, B: Bundles + Drop, R: Read, 
         runner.old result runner.new }
     // It holds after any script, whatever its commands were and whichever writes failed. All that was asked of the
     // files since the start is what the calls of the node's kernel stand for, in their order and place. If files do
-    // what they answer, each group's have what it requests, and that is safe. The law ties the kernel's calls to the
-    // first kernel of the machine and to the last state. It ties no call to a line of the script.
+    // what they answer, each group's have what it requests, and that is safe. The writing calls among the kernel's are
+    // those of its trace, to which each line adds just those that it stands for (`laws::scripts_are_told`).
     ensures mirrored { IsMirroredNode F.asked S.site runner.new.node }
 {
     let end = run_script_within(runner, script, w, most_reads);

@@ -1,4 +1,4 @@
--- A new kernel of which no write was refused is new.
+-- A new kernel of which nothing was asked is new.
 use Rattle.std.proofs.Common.{ap, inr, subst, sym}
 use Rattle.machine.specs.Present.{present}
 use Rattle.machine.specs.Nodes.{nodes_of}
@@ -25,8 +25,8 @@ pub returns-in-Ok-new-clause-boots : goal.returns-in-Ok-new-clause-boots
 returns-in-Ok-new-clause-boots g c =
     let made = c.new-kernel.result in
     let m = c.args.machine in (
-      mirrored made.failed made.inner,
-      first_mirrored (present m) m.reserved m.online (nodes_of m) FIRST_PID made.failed made.inner c.new-kernel.ensures.failed
+      mirrored made.trace made.inner,
+      first_mirrored (present m) m.reserved m.online (nodes_of m) FIRST_PID made.trace made.inner c.new-kernel.ensures.trace
           (rw c.new-kernel.ensures.inner c.in-Ok.ensures),
       c.in-Ok-new.ensures.opened,
     )
@@ -38,10 +38,10 @@ returns-in-Err-clause-err g c =
     let refused = c.in-Err.not_opened.kernel in
     let its : IsNotBooted g.F.GroupFiles.asked g.S.Sited.site m c.in-Err.not_opened.error =
     record {
-      first = mirrored made.failed made.inner;
-      its = first_mirrored (present m) m.reserved m.online (nodes_of m) FIRST_PID made.failed made.inner c.new-kernel.ensures.failed
+      first = mirrored made.trace made.inner;
+      its = first_mirrored (present m) m.reserved m.online (nodes_of m) FIRST_PID made.trace made.inner c.new-kernel.ensures.trace
           (rw c.new-kernel.ensures.inner c.in-Ok.ensures);
-      kernel = mirrored refused.failed refused.inner;
+      kernel = mirrored refused.trace refused.inner;
       refused = c.in-Err.ensures.refused;
       files = refused.files;
       mirrored = c.is_mirrored-in-Err.ensures.mirrored;
