@@ -495,7 +495,7 @@ short_stands old h weigh parts wanted allowed new l =
     let same : new ≡ record old { last = new.last } = l.is ∙ ap (λ last. record old { last = last }) (sym named) in
     let short : AreShort old l.members wanted allowed = are_short old h weigh parts wanted allowed new l in (
       record { members = l.members; short = short; could_not = could_not; same = same },
-      record { members = l.members; short = short; named = named; none = none },
+      record { members = l.members; short = short; named = named; none = none; needed = l.decides.needed },
     )
 
 -- each container's group is in the tree

@@ -8,11 +8,12 @@ use Rattle.certificate.specs.PricesView.{PricesView}
 use Rattle.certificate.specs.Verdict.{AreParts}
 use Rattle.certificate.specs.declared.certificates.Certificate.{Certificate}
 use Rattle.faults.specs.declared.OrMemory.{OrMemory}
+use Rattle.hall.specs.Needed.{AreNeeded}
 use Rattle.node.specs.declared.fault.NodeFault.{NodeFault}
 use Rattle.node.specs.declared.outcome.Outcome.{Outcome}
 use Rattle.node.specs.declared.outcome.Outcome.TheVariants.{Plan, Short}
 use Rattle.node.specs.NodeState.{NodeState}
-use Rattle.node.specs.Rows.{as_cores, rows_of, planned, lacking}
+use Rattle.node.specs.Rows.{as_cores, rows_of, scaled_rows_of, planned, lacking}
 use Rattle.node.specs.Best.{moved}
 use Rattle.node.specs.Headline.{effective_sets, AreShort}
 
@@ -33,12 +34,14 @@ pub record TellsPlan (old : NodeState) (total : ℕ) (new : NodeState) : Type 0 
   pub least : IsLeast (rows_of old) (as_cores old.machine (effective_sets new.kernel new.containers))
   pub costs : total ≡ cost (rows_of old) (as_cores old.machine (effective_sets new.kernel new.containers)) * old.machine.threads
 
--- what the certificate tells after a shortage: containers that are short by these numbers, and that the rows have no plan
+-- what the certificate tells after a shortage: containers that are short by these numbers, and that the rows have no plan. Only
+-- those to blame are named: the rows of all members but any one have a plan.
 pub record TellsShortage (old : NodeState) (wanted : ℕ) (allowed : Ids) (new : NodeState) : Type 0 where
   pub members : List ℕ
   pub short : AreShort old members wanted allowed
   pub named : new.last ≡ Some (lacking old members)
   pub none : HasNoPlan (rows_of old)
+  pub needed : AreNeeded (scaled_rows_of old) members
 
 -- what the certificate tells after a rebalance that answers this
 abbrev pub Tells : NodeState → Result Outcome (OrMemory NodeFault) → NodeState → Type 0

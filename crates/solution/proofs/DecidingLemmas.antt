@@ -15,7 +15,7 @@ use Rattle.certificate.specs.declared.price_lists.Price.{Price}
 use Rattle.certificate.specs.declared.weights.Weights.{Weights}
 use Rattle.certificate_text.specs.ProblemText.{AreWritable}
 use Rattle.certificate_text.specs.Written.{CanWrite, IsHeld}
-use Rattle.solution.specs.Decides.{Decides, IsTotalHeld, answered}
+use Rattle.solution.specs.Decides.{AreAllNeeded, Decides, IsTotalHeld, answered}
 use Rattle.transport.specs.Solved.{IsAnswerOf}
 use Rattle.transport.specs.declared.solver.Answer.{Answer}
 use Rattle.transport.specs.declared.solver.Answer.TheVariants as answer
@@ -79,7 +79,7 @@ module _ (rows : List RowView) (weights : Weights) (means : LimitsMean) (writabl
   held (answer.Short members turns) is fits = writable.held
 
 -- what the solver answers decides the problem
-pub decides : (rows : List RowView) (weights : Weights) (a : Answer) → IsAnswerOf rows a → Decides rows weights (answered rows weights a)
-decides rows weights (answer.Plan sets prices total turns) is =
+pub decides : (rows : List RowView) (weights : Weights) (a : Answer) → IsAnswerOf rows a → AreAllNeeded rows a → Decides rows weights (answered rows weights a)
+decides rows weights (answer.Plan sets prices total turns) is needed =
     (refl, refl, record { least = is.decided; proved = is.right; dealt = is.dealt; by_class = is.priced.0; some = is.priced.1 })
-decides rows weights (answer.Short members turns) is = (refl, refl, record { shortage = is.right; none = is.decided })
+decides rows weights (answer.Short members turns) is needed = (refl, refl, record { shortage = is.right; none = is.decided; needed = needed })

@@ -25,6 +25,7 @@ module _ (rows : List RowView) (fit : IsTrue (rows_fit rows)) where
         proved = (d.2.proved, refl);
         best = (d.2.least, d.2.proved.costs);
         dealt = d.2.dealt;
+        needed = tt;
       }))
   solution (Short own members said) d =
       subst (λ (w : Weights). IsSolution rows (Short own members w)) (sym d.1)
@@ -36,4 +37,5 @@ module _ (rows : List RowView) (fit : IsTrue (rows_fit rows)) where
         proved = record { limits = fit; shortage = d.2.shortage; asks = refl; has = refl };
         best = d.2.none;
         dealt = tt;
+        needed = d.2.needed;
       }))

@@ -16,6 +16,7 @@ use Rattle.certificate_text.specs.ProblemText.{IsProblemText}
 use Rattle.certificate_text.specs.declared.checking.VerdictFault.{VerdictFault}
 use Rattle.certificate_text.specs.declared.checking.VerdictFault.TheVariants.{BadText, Check}
 use Rattle.faults.specs.declared.or_memory.OrMemory.{OrMemory}
+use Rattle.hall.specs.Needed.{AreNeeded}
 use Rattle.faults.specs.declared.or_memory.OrMemory.TheVariants.{Memory, Fault}
 
 -- the rows that a certificate is of
@@ -33,8 +34,13 @@ abbrev pub IsDealtPlan : Certificate → Type 0
 IsDealtPlan (Plan rows sets prices total weights) = IsDealt rows sets
 IsDealtPlan (Short rows members weights) = Unit {0}
 
+-- no member of a shortage can be left out
+abbrev pub NamesOnlyNeeded : List RowView → Certificate → Type 0
+NamesOnlyNeeded rows (Plan own sets prices total weights) = Unit {0}
+NamesOnlyNeeded rows (Short own members weights) = AreNeeded rows members
+
 -- a certificate of version 1 of these very rows, which its own check accepts. No plan of the rows costs less than its plan,
--- or they have no plan.
+-- or they have no plan; then it names only rows that can't be left out.
 pub record IsSolution (rows : List RowView) (c : Certificate) : Type 0 where
   pub rows_are : rows_of c ≡ rows
   pub version : weights_of c ≡ Plain
@@ -42,6 +48,7 @@ pub record IsSolution (rows : List RowView) (c : Certificate) : Type 0 where
   pub proved : IsProvedCertificate c verdict
   pub best : IsBest c verdict
   pub dealt : IsDealtPlan c
+  pub needed : NamesOnlyNeeded rows c
 
 -- the text stands for rows, which are within their limits
 abbrev pub HasRows : List ℕ → Bool → Type 0

@@ -8,6 +8,7 @@
 //! - `decide` is for rows within the limits that can be written. Its only refusal is an allocation failure.
 #![tactic(auto)]
 
+mod blaming;
 mod deciding;
 mod quick;
 mod solution;

@@ -8,6 +8,7 @@ ghost use Rattle.faults.specs.declared.or_memory.OrMemory.TheVariants.{Memory};
 ghost use Rattle.solution.specs.Solves.{HasRows, IsSolution, IsUnsolved, Solves};
 
 use crate::Solution;
+use crate::blaming::without_the_rest;
 use crate::deciding::certificate_of;
 use crate::quick::quick_answer;
 use certificate::{Certificate, CheckFault, Problem, Weights, rows_fit};
@@ -24,7 +25,8 @@ use std::alloc::{AllocError, Global};
 pub fn solve_text(alloc: Global, text: &[u8]) -> Result<Solution, OrMemory<VerdictFault>>
     // What it returns is a certificate of version 1 of the very rows that the text stands for. **No plan of the rows
     // costs less than its plan, or they have no plan.** The check accepts it. The text that is written of it stands for
-    // it in the grammar of certificates. Twins go to the rows in order.
+    // it in the grammar of certificates. Twins go to the rows in order. A shortage names only those to blame: without
+    // any one of its members there is a plan of the others.
     ensures solved { IfOk result (Solves text.now) }
     // It returns one wherever the text stands for rows within the limits, unless an allocation fails.
     ensures complete { HasRows text.now true → IfErr result (λ e. e ≡ Memory) }
@@ -56,6 +58,7 @@ fn solved(alloc: Global, problem: Problem) -> Result<Certificate, AllocError>
     ensures can { IfOk result CanWrite }
 {
     certificate_text::laws::written_texts_are_read();
-    let answer = quick_answer(alloc, &problem)?;
+    let found = quick_answer(alloc, &problem)?;
+    let answer = without_the_rest(alloc, &problem, found)?;
     Ok(certificate_of(problem, Weights::Plain, answer))
 }

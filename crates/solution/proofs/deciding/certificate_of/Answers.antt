@@ -12,4 +12,4 @@ returns-clause-held c =
 
 pub returns-clause-decided : goal.returns-clause-decided
 returns-clause-decided c =
-    rw c.answered.ensures.is (decides _ _ _ c.requires.answer)
+    rw c.answered.ensures.is (decides _ _ _ c.requires.answer c.requires.needed)

@@ -1,0 +1,3 @@
+pub mod Marking
+pub mod Parts
+pub mod Shrinking

@@ -1,0 +1,10 @@
+pub mod Moving
+pub mod Searching
+pub mod Filling
+pub mod Sums
+pub mod Serving
+pub mod Marking
+pub mod Plans
+pub mod Shortages
+pub mod Theorem
+pub mod Needed
