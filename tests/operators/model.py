@@ -196,8 +196,17 @@ class Program:
             for _ in range((self.rows[name].count or 0) - list(holder.values()).count(name)):
                 seen: Set[str] = set()
                 if not self.augment(name, holder, seen):
-                    return {}, [other for other in asking if other in seen]
+                    return {}, self.to_blame([other for other in asking if other in seen])
         return {name: frozenset(cpu for cpu, has in holder.items() if has == name) for name in asking}, []
+
+    def to_blame(self, short: List[str]) -> List[str]:
+        """Those who are short, less such as can be left out: without any one that stays the others have a plan."""
+        for name in short:
+            holder: Dict[int, str] = {}
+            rest = [other for other in short if other != name]
+            if not all(self.augment(other, holder, set()) for other in rest for _ in range(self.rows[other].count or 0)):
+                return self.to_blame(rest)
+        return short
 
     def augment(self, name: str, holder: Dict[int, str], seen: Set[str]) -> bool:
         seen.add(name)

@@ -17,8 +17,8 @@ SCRIPTS = 700
 PLANNED = 250
 # What has to be seen: plans of two rows or more, answers `more`, rows of one plan, bytes of one answer; of the plans those that
 # move no CPU, those that move several while others stay, those for which plans of their distance were found that move more,
-# and those that were compared with every plan.
-LEAST = {"plans": 200, "more": 300, "rows": 100, "bytes": 8193, "still": 20, "several": 100, "spared": 40, "tried": 300}
+# and those that were compared with every plan; shortages of several, of which none can be left out.
+LEAST = {"plans": 200, "more": 300, "rows": 100, "bytes": 8193, "still": 20, "several": 100, "spared": 40, "tried": 300, "blamed": 10}
 IDS = ["a", "b", "c", "d", "e", "web-1", "db.2", "x" * 64]
 NO_IDS = [".", "..", "x" * 65, "a/b", "é", "a:b"]
 NO_SETS = ["x", "5-3", "4096", ",", "1,,2", "1-", "0,4095", "4095", "2-1,x"]

@@ -86,14 +86,24 @@ def dealt(rows, plan, alike=None):
     return sets
 
 
+def only_needed(rows, members):
+    """The members of a shortage, or of a smaller one, of which none can be left out: without it the others have a plan."""
+    for k in members:
+        rest = [j for j in members if j != k]
+        plan, short = work_out([rows[j] for j in rest])
+        if plan is None:
+            return [rest[place] for place in short]
+    return members
+
+
 def work_out(rows):
-    """`(plan, None)`, the plan of least cost and dealt, or `(None, members)` of a shortage."""
+    """`(plan, None)`, the plan of least cost and dealt, or `(None, members)` of a shortage of which none can be left out."""
     plan = [set() for _ in rows]
     for k, (demand, _) in enumerate(rows):
         for _ in range(demand):
             taken, members = cheapest_exchanges(rows, plan, k)
             if members is not None:
-                return None, members
+                return None, only_needed(rows, sorted(members))
             for row, cpu in reversed(taken):
                 for cpus in plan:
                     cpus.discard(cpu)
@@ -164,3 +174,8 @@ def is_least(rows, plan):
 def is_short(rows, members):
     allowed = set().union(*(rows[k][1] for k in members))
     return sum(rows[k][0] for k in members) > len(allowed)
+
+
+def can_be_left_out(rows, members):
+    """Members without which the others have no plan either."""
+    return [k for k in members if work_out([rows[j] for j in members if j != k])[0] is None]

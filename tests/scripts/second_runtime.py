@@ -571,6 +571,10 @@ class Runtime:
             members = [k for k, name in enumerate(names) if name in ids]
             if not plain_plan.is_short(rows, members):
                 raise Wrong(f"no shortage of {rows}: {ids}")
+            few = len(members) <= SOLVED and sum(rows[k][0] for k in members) <= SOLVED_CPUS
+            if few and plain_plan.can_be_left_out(rows, members):
+                raise Wrong(f"a member of the shortage {ids} of {rows} can be left out")
+            self.seen["blamed"] += few and len(members) > 1
             return None, members
         holds = {word[1]: numbers(word[2]) for word in words if word[0] == "hold" and len(word) == 3}
         sets = [holds.get(name, set()) & self.machine.present for name in names]

@@ -166,6 +166,8 @@ class Tried(Runtime):
         asked = sum(count for count, _, _ in members)
         if best is not None or asked <= len(allowed) or words[0] != ["short", "demand", str(asked), "allowed", print_list(allowed)]:
             raise Wrong(f"{words[0]} of {asking}, whose best plan is {best}")
+        if any(self.best(members[:k] + members[k + 1 :]) is None for k in range(len(members))):
+            raise Wrong(f"a member of {words} can be left out: {asking}")
         self.seen["shortages"] += 1
 
     def do_adopt(self, name, bundle, listed):

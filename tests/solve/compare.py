@@ -16,7 +16,7 @@ from collections import Counter
 HERE = os.path.dirname(os.path.abspath(__file__))
 sys.path[:0] = [os.path.join(HERE, ".."), os.path.join(HERE, "..", "certificates"), os.path.join(HERE, "..", "solver")]
 import written
-from problems import classes, largest, least_of, made
+from problems import classes, is_small, largest, least_of, made
 from program import run
 from reference import CPUS, ROWS, BadText, check, is_id, number, numbers, overlap, read, wanted
 
@@ -78,6 +78,9 @@ def fault_of(rows, answer):
     lines = [line.split(" ")[:1] + line.split(" ")[2:] for line in answer.decode().splitlines() if line[:5] in ("hold ", "short")]
     least = least_of(rows, lines)
     if least is None:
+        members = [line.split(b" ")[1] for line in answer.splitlines() if line.startswith(b"short ")]
+        if any(least_of([row for row in rows if row[0] in members and row[0] != name], []) is None for name in members if is_small(rows)):
+            return "a member of the shortage can be left out", verdict
         return (None if verdict.startswith("short demand ") else "there is no plan"), verdict
     owner = {cpu: k for k, (s, _) in enumerate(read(answer)[1]) for cpu in s}
     dealt = [[owner.get(cpu, len(rows)) for cpu in twin] for twin in classes(rows)]

@@ -21,6 +21,8 @@ def head(line):
 ROW = "row a 1 10:1"
 TWO = ["row a 1 10:1 11:2", "row b 1 12:1 50:2"]
 SHORT = ["row a 2 10:1-2", "row b 1 10:1-2", "row c 1 10:4-5"]
+# b can be left out of a shortage, since a alone asks for more than there is.
+LATE = ["row b 2 10:1-2", "row a 5 10:1-2"]
 NONE = "numarun-certificate 1\ntotal 0\nend\n"
 
 
@@ -55,6 +57,7 @@ REFUSED = [
 # A text, and the whole answer, where there is but one.
 ANSWERED = [
     (problem(), NONE), (problem("row a 1"), lacking("row a 1", "short a")), (problem(*SHORT), lacking(*SHORT, "short a", "short b")),
+    (problem(*LATE), lacking(*LATE, "short a")),
     (problem("row a 5 10:3,1-2,,2 7:08"), lacking("row a 5 10:1-3 7:8", "short a")),
     (problem("row a 4096 0:0-4094"), lacking("row a 4096 0:0-4094", "short a")),
     (problem("row ... 2 0:1 33554431:4095", "row x 1"), lacking("row ... 2 0:1 33554431:4095", "row x 1", "short x")),

@@ -81,10 +81,15 @@ def classes(rows):
     return list(alike.values())
 
 
+def is_small(rows):
+    """Whether every plan can be tried."""
+    return len(rows) <= 4 and len(set().union(*(s for _, _, offers in rows for _, s in offers))) <= 7
+
+
 def least_of(rows, lines):
     """The cost of a least plan, or None where there is none. Large problems are not tried: there a plan that no exchange makes
     cheaper is a least one, and else there is none, which is shown by the shortage."""
-    if len(rows) <= 4 and len(set().union(*(s for _, _, offers in rows for _, s in offers))) <= 7:
+    if is_small(rows):
         return least_cost(rows)
     if lines and lines[0][0] == "short":
         return None
