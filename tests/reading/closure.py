@@ -24,7 +24,7 @@ INNER = re.compile(r"^ +(?:pub )?(?:abbrev|unfoldable|record|data) ")
 USE = re.compile(r"^ *(?:ghost )?use Rattle\.(\w+)\.specs\.([\w.]+?)(?:\.\{(.*)\}| as (\w+));?$")
 
 # A title, a crate, a file of src/, a function there, and its clauses, with those of its `requires` that are part of the claim; a
-# clause without a name is "".
+# clause without a name is "". A clause may be a field of the record that a clause without a name says to hold.
 CLAUSES = [
     ("check_plan", "certificate", "checks.rt", "check_plan", "least"),
     ("check", "certificate", "checking.rt", "check", "best"),
@@ -37,11 +37,12 @@ CLAUSES = [
     ("scripts_serve_configs", "runtime", "laws.rt", "scripts_serve_configs", ""),
     ("run_mirrored", "runtime", "mirrored.rt", "run_mirrored", "mirrored"),
     ("boot_mirrored", "runtime", "booting.rt", "boot_mirrored", "site boots mirrored"),
+    ("scripts_are_told", "runtime", "laws.rt", "scripts_are_told", "lines first"),
     ("do_run_mirrored", "cli", "mirroring.rt", "do_run_mirrored", ""),
     ("partitions", "runtime", "laws.rt", "partitions", ""),
 ]
 # Of these only the pages are listed.
-LONG = {"each_rebalance", "scripts_serve_configs", "do_run_mirrored"}
+LONG = {"each_rebalance", "scripts_serve_configs", "scripts_are_told", "do_run_mirrored"}
 
 
 def imports(lines):
@@ -139,6 +140,13 @@ class Sources:
             elif read.owner(word) not in (None, name):
                 yield crate, page, read.owner(word)
 
+    def field(self, crate, page, name, field):
+        """What the words of a record's field stand for; none where it has no such field."""
+        read = self.page(crate, page)
+        text = read.text(name) if read and name in read.definitions else ""
+        found = re.search(rf"^  pub {field} :(.*(?:\n   .*)*)", text, re.MULTILINE)
+        return [self.whole(*read.words[word]) for word in WORD.findall(found[1]) if word in read.words] if found else []
+
     def whole(self, crate, page, name):
         """The definition that a name belongs to: a case is of its `data`."""
         read = self.page(crate, page)
@@ -154,18 +162,31 @@ def type_of(page):
     return parts[-2] if parts[-1] == "TheVariants" else parts[-1]
 
 
-def roots(crate, file, function, clause):
+def roots(sources, crate, file, function, clause):
     """What the words of these clauses of a function in src/ stand for."""
     path = TOP / "crates" / crate / "src" / file
     text = path.read_text(encoding="utf-8")
     at = re.search(rf"\bfn {function}\b", text)
     words, named = imports(text.splitlines()), []
     for name in clause.split() or [""]:
-        found = re.compile(rf"\b(?:requires|ensures) {f'{name} ' if name else ''}{{").search(text, at.start()) if at else None
-        if not found or "\nfn " in text[at.start():found.start()] or "\npub fn " in text[at.start():found.start()]:
+        found = clause_text(text, at, name)
+        if found is not None:
+            named += [words[word] for word in WORD.findall(found) if word in words]
+            continue
+        whole = [words[word] for word in WORD.findall(clause_text(text, at, "") or "") if word in words]
+        fields = [part for place in whole for part in sources.field(*place, name)]
+        if not fields:
             sys.exit(f"{crate}/src/{file}: {function} has no clause {name or 'without a name'}")
-        named += WORD.findall(text[found.start():text.index("}\n", found.start())])
-    return [words[word] for word in named if word in words]
+        named += fields
+    return named
+
+
+def clause_text(text, at, name):
+    """The text of a function's clause, if it has one of this name."""
+    found = re.compile(rf"\b(?:requires|ensures) {f'{name} ' if name else ''}{{").search(text, at.start()) if at else None
+    if not found or re.search(r"\n *(?:pub(?:\(crate\))? )?fn ", text[at.start():found.start()]):
+        return None
+    return text[found.start():text.index("}\n", found.start())]
 
 
 class Models:
@@ -273,7 +294,7 @@ def believed(found):
     for title, says in BELIEVED.items():
         yield f"| {says} | {lines(title)} | {lines(title, 'views')} |"
     added = lines("rebalance_told", without=found["rebalance"]["definitions"])
-    yield f"| besides, whom a shortage names (its clause `told`) | {added} more | |"
+    yield f"| besides, whom a shortage names (`told`) | {added} more | |"
 
 
 BELIEVED = {
@@ -295,6 +316,7 @@ SAYS = {
     "scripts_serve_configs": "the same, from a script's text and the configs' bytes",
     "run_mirrored": "`run --cgroup`: what the tree's files are asked for, and what they then have",
     "boot_mirrored": "that it begins so, at this root and on this machine",
+    "scripts_are_told": "which writing calls of the kernel the lines of a script stand for",
     "do_run_mirrored": "what `run --cgroup` does up to the end of its script, by its arguments, files and streams",
     "partitions": "`--partition`: no group outside has a container's CPU in effect, if the kernel's rule holds",
 }
@@ -418,7 +440,7 @@ def main():
     seen = {key: set() for key in ("definitions", "declared", "types", "views", "kit")}
     sources, models = Sources(), Models()
     for title, crate, file, function, clause in CLAUSES:
-        definitions, declared, kit = sources.closure(roots(crate, file, function, clause))
+        definitions, declared, kit = sources.closure(roots(sources, crate, file, function, clause))
         types, named = models.of(crate, file, function)
         views = sources.closure(named)[0] - definitions
         found[title] = {"definitions": definitions, "declared": declared, "kit": kit, "sources": sources, "types": types,

@@ -52,11 +52,12 @@ pub fn do_run_mirrored<F: Opens, T: GroupTrees, B: Bundles + Drop, R: Read, W: W
     // It is the same as `do_run` in a cgroup tree, by 2^64 - 1 reads. Or it refuses its root, by what was found of it
     // (`IsNotRooted`), or the node's group can't be made there (`ScriptsMirroredAt`). At the end of a script its node
     // is mirrored (`PlaysMirrored`), as `runtime` says it. Its place is below ROOT, in a tree opened by these options,
-    // with the nodes that were found to have memory. All that was asked of trees, when it returns, is what the
-    // root was opened by (`RootTells`), and then what the node's kernel asked for. If the machine is refused nothing
-    // was asked; if the root is, no more than its lock and what is told of it. Where either is refused, or the node's
-    // group can't be made, no byte of the script was read. What the notes of the system's refusals are on standard
-    // error no clause says: they go past its page.
+    // with the nodes that were found to have memory. All that was asked of trees, when it returns, is what the root was
+    // opened by (`RootTells`), and then what the node's kernel asked for. The writing calls of that kernel are those
+    // that the script's lines stand for, line by line, in order and with their answers, behind those by which the node
+    // began. If the machine is refused nothing was asked; if the root is, no more than its lock and what is told of it.
+    // Where either is refused, or the node's group can't be made, no byte of the script was read. What the notes of the
+    // system's refusals are on standard error no clause says: they go past its page.
     ensures { ScriptsMirrored W.contents E.contents console.old console.new result (F.opens files.now)
         (F.fails files.now) F.File.gives
         T.Files.asked (T.finds trees.old) T.asked trees.old trees.new B.finds (B.told bundles) (R.remaining script.old)

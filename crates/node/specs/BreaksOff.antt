@@ -20,7 +20,8 @@ use Rattle.node.specs.Tells.{IsTold}
 
 -- what a rebalance leaves if a write failed. The plan was the best, and the certificate tells it. Each container of the
 -- hand-over requests what it did before, what it keeps of that, or what the plan gives it; in the direct order, what it may on
--- its way (`AreSince`). Nothing else changed in the kernel but its counts. What is requested is safe, and no hand-over is open.
+-- its way (`AreSince`). Nothing else changed in the kernel but what it tells and counts. What is requested is safe, and no
+-- hand-over is open.
 pub record IsBrokenOff (order : Order) (old : NodeState) (new : NodeState) : Type 0 where
   pub sets : List Ids
   pub total : ℕ

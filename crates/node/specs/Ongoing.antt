@@ -63,7 +63,7 @@ Stands k owners underway (Some o) = (underway ≡ true) × IsOngoing k owners o
 Stands k owners underway None = underway ≡ false
 
 -- what a failed write leaves of a hand-over. Each of its containers requests what it did at first, what it keeps of that, or
--- its target; in the direct order, what it may on its way. Nothing else changed in the kernel but its counts.
+-- its target; in the direct order, what it may on its way. Nothing else changed in the kernel but what it tells and counts.
 pub record IsBroken (o : Ongoing) (old new : KernelState) : Type 0 where
   pub since : AreSince o.order new o
   pub rest : KeepsRest o.targets old new

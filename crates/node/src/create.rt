@@ -158,7 +158,7 @@ impl<K: Kernel + Drop> Node<K> {
         // It makes four writing calls, or three if the group is there. If it is refused it makes at most these.
         ensures made { CreateWrites self.old id.now result self.new }
         // The kernel refuses in three cases only. A write fails, no serial for a group of this id is left, or no pid is
-        // left. If no serial is left, only the count of writes changes, and if no pid is left nothing.
+        // left. If no serial is left, only the list of calls grows, and if no pid is left nothing.
         ensures late { (fault : KernelFault) → result ≡ Err (Fault (Kernel fault))
             → LateCause self.old id.now fault self.new }
         // It never answers that a CPU is not free.

@@ -116,9 +116,10 @@ pub fn each_write()
     ensures { RebalancesWriteLittle }
 {}
 
-/// What the kernel was asked for. Each call of a node names the writing calls that it makes, whatever it answers, and
-/// an event of the kernel makes none (`told`). So of any list of calls and events the kernel was asked for just those
-/// of each, one after another, in their order and with their answers, and for no other (`runs`).
+/// What the kernel was asked for. Whatever a call of a node answers, its relation names the writing calls that it made,
+/// and the kernel was asked for no others in it; an event of the kernel makes none (`told`). So by any list of calls
+/// and events the kernel was asked for just those of each, one after another, in their order and with their answers
+/// (`runs`).
 pub fn each_call()
     ensures told { EventsAreTold }
     ensures runs { RunsAreTold }

@@ -59,7 +59,7 @@ impl<K: Kernel + Drop> Node<K> {
         // Each that is made is one less; in the direct order it leaves one less, or fewer.
         ensures falls { result ≡ Ok Progress.More → (o : Ongoing) → self.old.ongoing ≡ Some o
             → FallsBy o.order o.targets self.old.kernel self.new.kernel }
-        // It makes one writing call if a write is due, that write, and else none.
+        // If a write is due it makes just that writing call, and else none.
         ensures told { self.new.kernel.trace ≡ step_told self.old result ++ self.old.kernel.trace }
         ensures made { (o : Ongoing) → self.old.ongoing ≡ Some o
             → writes self.new.kernel ≡ writes self.old.kernel + made_by o.order self.old.machine o self.old.kernel }
@@ -75,8 +75,8 @@ impl<K: Kernel + Drop> Node<K> {
         ensures way { (o : Ongoing) → self.old.ongoing ≡ Some o → o.order ≡ Directly
             → AreOnWay (directed_of o) self.old.kernel self.new.kernel }
         // After a write that failed, each container requests what it did before, what it keeps of that, or what the
-        // plan gave it; in the direct order what it may on its way. Nothing else changed in the kernel but its counts,
-        // and the hand-over is over.
+        // plan gave it; in the direct order what it may on its way. Nothing else changed in the kernel but what it
+        // tells and counts, and the hand-over is over.
         ensures broken { OnErr result ((o : Ongoing) → self.old.ongoing ≡ Some o
             → IsBroken o self.old.kernel self.new.kernel) }
         ensures counted { self.new.kernel.failures ≡ self.old.kernel.failures + rise_of result }

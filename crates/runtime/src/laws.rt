@@ -79,8 +79,9 @@ pub fn scripts_serve_configs<B: Bundles>()
 }
 
 /// However a script ends, the kernel was asked for just the writing calls that its lines stand for, line by line, in
-/// order and with their answers, and for no other (`lines`). Before the first line it was asked to make the group of
-/// all containers, and for nothing else (`first`).
+/// order and with their answers (`lines`). A line that only reads, that tells an event or that is refused with no call
+/// stands for none. Before the first line the kernel was asked to make the group of all containers, and for nothing
+/// else (`first`).
 pub fn scripts_are_told<B: Bundles>()
     ensures lines { ScriptsAreTold (IsSeen B.finds) }
     ensures first { BootsAreTold }
