@@ -221,11 +221,11 @@ impl<K: Kernel + Drop> Node<K> {
     /// In this order: `Busy`; an allocation failure; `Failed` of the kernel: the hand-over is over, each container
     /// requests what it did before, or what it keeps of that, or its target, and the next call starts from there.
     pub fn rebalance(&mut self) -> Result<Outcome, OrMemory<NodeFault>>
-        // What the host has then (`headline`, on `specs/Headline.antt`), and what the certificate tells of that (`told`,
-        // on `specs/Tells.antt`). **A shortage names only those to blame**: if any one member is left out, the rows of
-        // the other members have a plan. If a write failed, each container requests what it did before, what it keeps
-        // of that, or what the plan gave it. Nothing else changed in the kernel but what it tells and counts, and the
-        // hand-over is over. The plan that it began was as good as that of `begin`, and the certificate tells it
+        // What the host has then (`headline`, on `specs/Headline.antt`), and what the certificate tells of that
+        // (`told`, on `specs/Tells.antt`). **A shortage names only those to blame**: if any one member is left out, the
+        // rows of the other members have a plan. If a write failed, each container requests what it did before, what it
+        // keeps of that, or what the plan gave it. Nothing else changed in the kernel but what it tells and counts, and
+        // the hand-over is over. The plan that it began was as good as that of `begin`, and the certificate tells it
         // (`broken`, by `best` and `told` of `IsBrokenOff`). It is `begin`, and what single steps until the hand-over
         // ends would do. `Busy` and an allocation failure change nothing (`rebalances`). To a plan it makes exactly the
         // writing calls that were to come of the hand-over to the sets then in effect. These are at most two for each
