@@ -21,8 +21,9 @@
 //!   `check`, `list`, `slit`, `solve`, a `run` without `--cgroup`, the help, a mistake in the words and a machine
 //!   file that is refused that is nothing (`Unasked`). By a root that is refused it is its lock, and what is told of
 //!   it. By a script that was run in a tree it is what its root was opened by, and then what its last kernel's list
-//!   says. The writing calls behind that list are those that the script's lines stand for, line by line, in order and
-//!   with their answers (`PlaysMirrored`). So nothing is asked behind the script's last line.
+//!   says. The writing calls behind that list are those by which the node began, and then those that the script's
+//!   lines stand for, line by line, in order and with their answers (`PlaysMirrored`). So nothing is asked behind
+//!   the script's last line.
 //! - The laws `check_spellings` and so on are plain spellings of each command, each with what it asks for and without a
 //!   mistake.
 #![tactic(auto)]
