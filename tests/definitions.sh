@@ -26,6 +26,8 @@ differs tests/pages/without-comments 's/^cpu_set Ids: /&IsDisjoint /'
 # A comment above a clause, a claim at the head of a file, the doc of a law, a claim and a law without a row, and a row by hand.
 differs crates/transport/src/solver.rt 's/the lower CPU first\.$/the higher CPU first./'
 differs crates/certificate/src/lib.rt 's/^\/\/! - All sums fit /\/\/! - Most sums fit /'
+differs crates/node/src/planning.rt 's/- `headline`: What the host has then/- `headline`: What the host had then/'
+differs crates/node/specs/RebalancesBy.antt 's/^  pub counted : /  pub also_counted : /'
 differs crates/twins/src/laws.rt 's/^\/\/\/ A class has one weight/\/\/\/ A class has two weights/'
 differs docs/claims.md '/^- `check_shortage`: /d'
 differs docs/claims.md '/^- `laws::pasts`: /d'

@@ -39,3 +39,6 @@ differs docs/reading.md 's/^    ensures least .*/    ensures least { OnOk result
 # A definition in a module of a module that rests on one less, and a condition that goes by another name.
 differs crates/cli/specs/Program.antt 's/ × RefusesRoot root why//'
 differs crates/runtime/src/booting.rt 's/^    requires site /    requires place /'
+# A field of a record that goes by another name, and one that rests on another definition.
+differs crates/node/specs/RebalancesBy.antt 's/^  pub headline : /  pub headlines : /'
+differs crates/node/specs/RebalancesBy.antt 's/^  pub told : Tells /  pub told : Headline /'

@@ -6,8 +6,9 @@ rows.py --text [CRATE [PAGE]]  prints the definitions of specs/, each with its c
 
 docs/claims.md says by hand which rows it has, and in what order. The section of a crate gets the bullets that stand under `# Proved`
 at the heads of its files in src/. A bullet `NAME`, `TYPE::NAME` or `laws::NAME` in it gets the first paragraph of that function's
-doc, of a law all of it, and the comment above each clause. Each public function with such comments has a bullet, and so has each
-public function of laws.rt. A section with the line `<!-- by hand -->` stays as it is.
+doc, of a law all of it, and the comment above each clause. Where that clause is a record, the comment may be a list with an item
+"- `FIELD`: .." for each field, and each is a row. Each public function with such comments has a bullet, and so has each public function
+of laws.rt. A section with the line `<!-- by hand -->` stays as it is.
 
 A public definition of specs/ has a comment above it, and a page has one at its head. Those that have none yet are named in
 tests/pages/without-comments, which only gets shorter: a line `CRATE PAGE: NAME..`, where `(head)` stands for the head of the page.
@@ -31,6 +32,10 @@ CLAIMED = re.compile(r"- `((?:\w+::)?\w+)`(?::|$)")
 FUNCTION = re.compile(r"( *)(pub )?(?:const )?fn (\w+)")
 OWNER = re.compile(r"(?:impl|pub trait)\b[^{]*?(\w+)(?:<[^{]*)? *(?:where[^{]*)?\{")
 CLAUSE = re.compile(r" *ensures (\w+ )?\{")
+# The claim of a field in a comment above a clause that is a record, that clause, and a field of a record.
+OF_FIELD = re.compile(r"- `(\w+)`: (.*)")
+RECORD = re.compile(r" *ensures \{ (\w+)\b")
+FIELD = re.compile(r"^  pub (\w+) :", re.MULTILINE)
 # A link that only the docs of code have.
 LINK = re.compile(r"\[(`[^`\]]*`)\](?:\([^)\s]*\))?")
 LEAST_ROWS, LEAST_DEFINITIONS = 170, 1700
@@ -109,13 +114,41 @@ def clauses(lines: list[str], at: int, indent: str) -> Iterator[tuple[str, str]]
     depth = 0
     while at < len(lines) and not lines[at].startswith((f"{indent}{{", f"{indent}}}")):
         clause = CLAUSE.match(lines[at])
-        text = " ".join(above(lines, at, "// ")) if clause else ""
-        if clause and text:
-            yield (clause[1] or "").strip(), plain(text)
+        said = above(lines, at, "// ") if clause else []
+        if said and OF_FIELD.match(said[0]):
+            yield from fields(said)
+        elif clause and said:
+            yield (clause[1] or "").strip(), plain(" ".join(said))
         depth += lines[at].count("{") - lines[at].count("}")
         if lines[at].endswith(";") and depth == 0:
             break
         at += 1
+
+
+def fields(said: list[str]) -> Iterator[tuple[str, str]]:
+    """The name of each field that a comment lists, and what it says of it."""
+    name, claim = "", list[str]()
+    for line in said:
+        begins = OF_FIELD.match(line)
+        if begins and name:
+            yield name, plain(" ".join(claim))
+        if begins:
+            name, claim = begins[1], []
+        claim.append(begins[2] if begins else line)
+    yield name, plain(" ".join(claim))
+
+
+def misnamed(crate: str) -> Iterator[str]:
+    """Comments that list other fields than those of the record above which they stand."""
+    there = [definition for _, path in pages(crate) for definition in definitions(lines_of(path))]
+    records = {definition.name: FIELD.findall("\n".join(definition.text)) for definition in there}
+    for path in sorted((TOP / "crates" / crate / "src").rglob("*.rt")):
+        lines = lines_of(path)
+        for at, line in enumerate(lines):
+            record, said = RECORD.match(line), above(lines, at, "// ")
+            listed = [name for name, _ in fields(said)] if record and said and OF_FIELD.match(said[0]) else []
+            if record and listed and listed != records.get(record[1]):
+                yield f"{crate}: the fields above {record[1]} in {path.name} are not its own, each once and in order"
 
 
 def section(crate: str, names: list[str]) -> tuple[str, list[str]]:
@@ -123,6 +156,7 @@ def section(crate: str, names: list[str]) -> tuple[str, list[str]]:
     source, made = Source(crate), [f"## {crate}", ""]
     wrong = [f"{crate}: {name} has comments above its clauses and no row" for name in sorted(source.commented - set(names))]
     wrong += [f"{crate}: the law {name} has no row" for name in sorted(source.laws - source.commented - set(names))]
+    wrong += misnamed(crate)
     for claim in source.claims:
         made += wrapped(f"- {claim}", "", "  ")
     for name in names:

@@ -221,16 +221,19 @@ impl<K: Kernel + Drop> Node<K> {
     /// In this order: `Busy`; an allocation failure; `Failed` of the kernel: the hand-over is over, each container
     /// requests what it did before, or what it keeps of that, or its target, and the next call starts from there.
     pub fn rebalance(&mut self) -> Result<Outcome, OrMemory<NodeFault>>
-        // What the host has then (`headline`, on `specs/Headline.antt`), and what the certificate tells of that
-        // (`told`, on `specs/Tells.antt`). **A shortage names only those to blame**: if any one member is left out, the
-        // rows of the other members have a plan. If a write failed, each container requests what it did before, what it
-        // keeps of that, or what the plan gave it. Nothing else changed in the kernel but what it tells and counts, and
-        // the hand-over is over. The plan that it began was as good as that of `begin`, and the certificate tells it
-        // (`broken`, by `best` and `told` of `IsBrokenOff`). It is `begin`, and what single steps until the hand-over
-        // ends would do. `Busy` and an allocation failure change nothing (`rebalances`). To a plan it makes exactly the
-        // writing calls that were to come of the hand-over to the sets then in effect. These are at most two for each
-        // live container. If a write fails, at most one more than two for each is made, and if there is no plan none
-        // (`made`).
+        // - `headline`: What the host has then (`specs/Headline.antt`).
+        // - `told`: What the certificate tells of that (`specs/Tells.antt`). **A shortage names only those to blame**:
+        //   if any one member is left out, the rows of the other members have a plan.
+        // - `broken`: If a write failed, each container requests what it did before, what it keeps of that, or what the
+        //   plan gave it. Nothing else changed in the kernel but what it tells and counts, and the hand-over is over.
+        //   The plan that it began was as good as that of `begin`, and the certificate tells it (`best` and `told` of
+        //   `IsBrokenOff`).
+        // - `rebalances`: It is `begin`, and what single steps until the hand-over ends would do. `Busy` and an
+        //   allocation failure change nothing.
+        // - `counted`: A failure is counted.
+        // - `made`: To a plan it makes exactly the writing calls that were to come of the hand-over to the sets then in
+        //   effect. These are at most two for each live container. If a write fails, at most one more than two for each
+        //   is made, and if there is no plan none.
         ensures { RebalancesBy InTurn self.old result self.new }
     {
         self.holds();
@@ -248,13 +251,17 @@ impl<K: Kernel + Drop> Node<K> {
     /// Those of `rebalance`; after `Failed` each container requests none but CPUs that it requested before, of what the
     /// plan gave it, reserved or allowed to it, and all that the plan gave it and it requested before.
     pub fn rebalance_directly(&mut self) -> Result<Outcome, OrMemory<NodeFault>>
-        // The host has then what `rebalance` leaves it (`headline`), and the certificate tells the same (`told`). If a
-        // write failed, each container requests what it may on its way. Nothing else changed in the kernel but what it
-        // tells and counts, and the hand-over is over. The plan was as good as that of `begin`, and the certificate
-        // tells it (`broken`). It is `begin_directly`, and single writes until the hand-over ends. By each a container
-        // takes its CPUs, of which no rival has any, or it is the one that a single step makes. `Busy` and an
-        // allocation failure change nothing (`rebalances`). It makes at most two writing calls for each live container,
-        // at most one more if a write fails, and none if there is no plan (`made`).
+        // - `headline`: The host has then what `rebalance` leaves it.
+        // - `told`: The certificate tells the same.
+        // - `broken`: If a write failed, each container requests what it may on its way. Nothing else changed in the
+        //   kernel but what it tells and counts, and the hand-over is over. The plan was as good as that of `begin`,
+        //   and the certificate tells it.
+        // - `rebalances`: It is `begin_directly`, and single writes until the hand-over ends. By each a container takes
+        //   its CPUs, of which no rival has any, or it is the one that a single step makes. `Busy` and an allocation
+        //   failure change nothing.
+        // - `counted`: A failure is counted.
+        // - `made`: It makes at most two writing calls for each live container. If a write fails, at most one more is
+        //   made, and if there is no plan none.
         ensures { RebalancesBy Directly self.old result self.new }
     {
         self.holds();
