@@ -1,6 +1,6 @@
 """Compares what `tools mirror` asks of files and answers with a second kernel that asks, too: `mirror.py TOOLS`. Calls by chance are
-made whole, and then with each call of the files refused in turn. After each call the files that do what they answer have what
-each group requests."""
+made whole, and then with each call of the files refused in turn. Each refusal is told behind it, with its path. After each call
+the files that do what they answer have what each group requests."""
 
 import os
 import random
@@ -35,6 +35,7 @@ class Mirrored(Kernel):
         end = " refused" if self.asked == self.refused else ""
         self.told.append(f'asked {what} {path} "{text}"{end}')
         if end:
+            self.told.append(f"told {path}")
             raise Refused("Failed")
         if what == "make":
             self.files = {file: has for file, has in self.files.items() if not file.startswith(path + "/")}
@@ -61,6 +62,7 @@ class Mirrored(Kernel):
         if self.child(parent, name) is not None:
             raise Refused("Exists")
         if name in (".", "..") or "/" in name:
+            self.told.append(f"told {name}")
             raise Refused("Failed")
         self.ask("write", self.path(parent) + "/cgroup.subtree_control", "+cpuset\\n")
         self.ask("make", f"{self.path(parent)}/{name}")
@@ -84,6 +86,7 @@ class Mirrored(Kernel):
 
     def call_end(self, serial):
         if self.group(serial)["parent"] is None:
+            self.told.append("told ROOT")
             raise Refused("Failed")
         self.ask("write", self.path(serial) + "/cgroup.kill", "1\\n")
         super().call_end(serial)

@@ -16,13 +16,13 @@ use Rattle.cpuset_tree.specs.TreeChanges.{without_group}
 use Rattle.cpuset_tree.specs.TreeLaws.{GroupAdded}
 use Rattle.cpuset_tree.specs.TreeLemmas.{added_leaves, removed_leaves, parent_is_there, serial_is_given}
 use Rattle.cpuset_tree.specs.TreeWellFormed.{IsWellFormed}
-use Rattle.cgroup_tree.specs.Asked.{Made, Removed, Unmade, Written, Compared, Asked, done}
-use Rattle.cgroup_tree.specs.Mirrored.{looks_behind}
+use Rattle.cgroup_tree.specs.Asked.{Deed, Remark, Made, Removed, Unmade, Written, Compared, Told, Asked, path_of, remark_on, done, refused, refusal}
+use Rattle.cgroup_tree.specs.Mirrored.{looked, looks_behind}
 use Rattle.cgroup_tree.specs.Paths.{folder, folder_at, folder_within, below, cpus_file, mems_file, partition_file, partition_line, controls_file, controls_line}
 use Rattle.cgroup_tree.specs.FolderLemmas.{older, folder_below}
 use Rattle.cgroup_tree.specs.ApartLemmas.{there_in, one_split, entry_placed}
 use Rattle.cgroup_tree.specs.Standing.{text_in, IsLineOf, IsMemsLineOf, StandsFor, AreApart, FoldersStand}
-use Rattle.cgroup_tree.specs.StandingLemmas.{written_elsewhere, two_files, one_folder}
+use Rattle.cgroup_tree.specs.StandingLemmas.{writes_stand, written_elsewhere, two_files, one_folder}
 
 -- where groups and their parents stand in the same places, their folders are the same
 at_place : (s t : TreeState) (P : Group → Type 0) (n : ℕ) → ((p : Group) → P p → folder_within n t p ≡ folder_within n s p)
@@ -180,20 +180,48 @@ compared_nowhere : (calls : List Asked) (path line file : List ℕ) → text_in 
 unfolding text_in
 compared_nowhere calls path line file = refl
 
--- a file that is looked at
-pub looked : (root : List ℕ) (memory : Ids) (s : TreeState) (path line : List ℕ) (calls : List Asked) → StandsFor root memory s calls
+told_nowhere : (calls : List Asked) (path : List ℕ) (remark : Remark) (file : List ℕ) → text_in (done (Told path remark) ∷ calls) file ≡ text_in calls file
+unfolding text_in
+told_nowhere calls path remark file = refl
+
+-- what is told
+pub noted : (root : List ℕ) (memory : Ids) (s : TreeState) (path : List ℕ) (remark : Remark) (calls : List Asked) → StandsFor root memory s calls
+    → StandsFor root memory s (done (Told path remark) ∷ calls)
+noted root memory s path remark calls stands = record {
+  cpus = λ h placed. rw (told_nowhere calls path remark (root ++ (folder s h ++ cpus_file))) (stands.cpus h placed);
+  mems = λ h placed. rw (told_nowhere calls path remark (root ++ (folder s h ++ mems_file))) (stands.mems h placed);
+}
+
+-- what is refused and told
+pub refused_and_told : (root : List ℕ) (memory : Ids) (s : TreeState) (deed : Deed) (calls : List Asked) → StandsFor root memory s calls
+    → StandsFor root memory s (refusal deed ++ calls)
+refused_and_told root memory s deed calls stands =
+    noted root memory s (path_of deed) (remark_on deed) (refused deed ∷ calls) (writes_stand.refused root memory s deed calls stands)
+
+-- a file that is compared, and is as it has to be
+pub compared : (root : List ℕ) (memory : Ids) (s : TreeState) (path line : List ℕ) (calls : List Asked) → StandsFor root memory s calls
     → StandsFor root memory s (done (Compared path line) ∷ calls)
-looked root memory s path line calls stands = record {
+compared root memory s path line calls stands = record {
   cpus = λ h placed. rw (compared_nowhere calls path line (root ++ (folder s h ++ cpus_file))) (stands.cpus h placed);
   mems = λ h placed. rw (compared_nowhere calls path line (root ++ (folder s h ++ mems_file))) (stands.mems h placed);
 }
 
+-- a file that is looked at, whatever it has
+pub looked_at : (root : List ℕ) (memory : Ids) (s : TreeState) (path line : List ℕ) (same : Bool) (calls : List Asked) → StandsFor root memory s calls
+    → StandsFor root memory s (looked (Compared path line) same ++ calls)
+looked_at root memory s path line true calls stands = compared root memory s path line calls stands
+looked_at root memory s path line false calls stands = refused_and_told root memory s (Compared path line) calls stands
+
 -- the files that are looked at behind a write
-pub looked_behind : (partition : Bool) (root : List ℕ) (memory : Ids) (s : TreeState) (path line : List ℕ) (write : Asked) (calls : List Asked) → StandsFor root memory s (write ∷ calls)
-    → StandsFor root memory s ((looks_behind partition root (Compared path line) ++ write ∷ []) ++ calls)
-looked_behind false root memory s path line write calls stands = looked root memory s path line (write ∷ calls) stands
-looked_behind true root memory s path line write calls stands =
-    looked root memory s (root ++ partition_file) partition_line (done (Compared path line) ∷ write ∷ calls) (looked root memory s path line (write ∷ calls) stands)
+pub looked_behind : (partition : Bool) (root : List ℕ) (memory : Ids) (s : TreeState) (path line : List ℕ) (same intact : Bool) (write : Asked) (calls : List Asked) → StandsFor root memory s (write ∷ calls)
+    → StandsFor root memory s ((looks_behind partition root (Compared path line) same intact ++ write ∷ []) ++ calls)
+looked_behind false root memory s path line same intact write calls stands =
+    rw (append_assoc (looked (Compared path line) same) (write ∷ []) calls) (looked_at root memory s path line same (write ∷ calls) stands)
+looked_behind true root memory s path line same intact write calls stands =
+    let partition : List Asked = looked (Compared (root ++ partition_file) partition_line) intact in
+    let effect : List Asked = looked (Compared path line) same in
+    rw (append_assoc (partition ++ effect) (write ∷ []) calls, append_assoc partition effect (write ∷ calls))
+    (looked_at root memory s (root ++ partition_file) partition_line intact (effect ++ write ∷ calls) (looked_at root memory s path line same (write ∷ calls) stands))
 
 -- the controllers that are passed on
 pub passed_on : (root : List ℕ) (memory : Ids) (s : TreeState) (parent : Group) (calls : List Asked) → StandsFor root memory s calls

@@ -12,7 +12,7 @@ use Rattle.kernel_model.specs.Trace.{WritingCall, MadeGroup, RemovedGroup, Wrote
 use Rattle.kernel_model.specs.KernelState.{KernelState}
 use Rattle.kernel_model.specs.WellFormed.{IsWellFormed}
 use Rattle.kernel_model.specs.Cases.{IsMade, Forks, Exits, GoesOffline, ComesOnline}
-use Rattle.cgroup_tree.specs.Asked.{Deed, Made, Removed, Unmade, Written, Compared, Asked, Opening, done, refused}
+use Rattle.cgroup_tree.specs.Asked.{Deed, Made, Removed, Unmade, Written, Compared, Asked, NoRoom, NoName, IsLeft, Opening, done, refusal, notice}
 use Rattle.cgroup_tree.specs.Paths.{folder, below, list_line, cpus_file, cpus_in_effect, mems_file, kill_file, controls_file, kill_line, controls_line}
 use Rattle.cgroup_tree.specs.Mirrored.{IsNamed, looks_behind}
 use Rattle.cgroup_tree.specs.Site.{Begins, Site, opening}
@@ -42,31 +42,36 @@ writes_among (Exited pid r ∷ past) = writes_among past
 writes_among (WentOffline cpu r ∷ past) = writes_among past
 writes_among (CameOnline cpu r ∷ past) = writes_among past
 
--- what a write asked of the files, the newest first: where it is Ok this, which was done; where it failed this, which was refused;
--- and nothing where something stood against it
+-- what a write asked of the files, the newest first: where it is Ok this, which was done; where it failed this, which was refused
+-- and told; and nothing where something stood against it
 abbrev pub IsAsked : {A : Type 0} → Deed → Result A KernelFault → List Asked → Type 0
 IsAsked deed (Ok value) these = these ≡ done deed ∷ []
-IsAsked deed (Err Failed) these = these ≡ refused deed ∷ []
+IsAsked deed (Err Failed) these = these ≡ refusal deed
 IsAsked deed (Err fault) these = these ≡ []
 
--- the same of a group that has a place; the root's own files are left, whatever was answered
-abbrev pub IsAskedAt : {P A : Type 0} → Option P → Deed → Result A KernelFault → List Asked → Type 0
-IsAskedAt None deed answer these = these ≡ []
-IsAskedAt (Some place) deed answer these = IsAsked deed answer these
+-- the same of a group that has a place; the root's own files are left, whatever was answered, and if it failed this is told
+abbrev pub IsAskedAt : {P A : Type 0} → Option P → (root : List ℕ) → Deed → Result A KernelFault → List Asked → Type 0
+IsAskedAt None root deed (Err Failed) these = these ≡ notice root IsLeft
+IsAskedAt None root deed answer these = these ≡ []
+IsAskedAt (Some place) root deed answer these = IsAsked deed answer these
 
 -- of a write of CPUs, behind which these looks are taken
-abbrev pub AreAskedAndLooked : {A : Type 0} → (write : Deed) → (looks : List Asked) → Result A KernelFault → List Asked → Type 0
-AreAskedAndLooked write looks (Ok value) these = these ≡ looks ++ done write ∷ []
-AreAskedAndLooked write looks (Err Failed) these = these ≡ refused write ∷ []
+abbrev pub AreAskedAndLooked : {A : Type 0} → (write : Deed) → (looks : Bool → Bool → List Asked) → Result A KernelFault → List Asked → Type 0
+AreAskedAndLooked write looks (Ok value) these = (same : Bool) × (intact : Bool) × (these ≡ looks same intact ++ done write ∷ [])
+AreAskedAndLooked write looks (Err Failed) these = these ≡ refusal write
 AreAskedAndLooked write looks (Err fault) these = these ≡ []
 
--- of a new group: the first and then the second, and the third where its allocation in the model failed
-abbrev pub AreAsked : {A : Type 0} → Deed → Deed → Deed → Result A (OrMemory KernelFault) → List Asked → Type 0
-AreAsked first then undone (Ok value) these = these ≡ done then ∷ done first ∷ []
-AreAsked first then undone (Err Memory) these =
-    (these ≡ done undone ∷ done then ∷ done first ∷ []) ⊎ (these ≡ refused undone ∷ done then ∷ done first ∷ [])
-AreAsked first then undone (Err (Fault Failed)) these = (these ≡ refused then ∷ done first ∷ []) ⊎ (these ≡ refused first ∷ []) ⊎ (these ≡ [])
-AreAsked first then undone (Err (Fault fault)) these = these ≡ []
+-- nothing was asked for, and why not was told of a folder of this name
+abbrev pub IsNoticed : List ℕ → List Asked → Type 0
+IsNoticed name these = (these ≡ notice name NoRoom) ⊎ (these ≡ notice name NoName)
+
+-- of a new group of this name: the first and then the second, and the third where its allocation in the model failed
+abbrev pub AreAsked : {A : Type 0} → (name : List ℕ) → Deed → Deed → Deed → Result A (OrMemory KernelFault) → List Asked → Type 0
+AreAsked name first then undone (Ok value) these = these ≡ done then ∷ done first ∷ []
+AreAsked name first then undone (Err Memory) these =
+    (these ≡ done undone ∷ done then ∷ done first ∷ []) ⊎ (these ≡ refusal undone ++ done then ∷ done first ∷ [])
+AreAsked name first then undone (Err (Fault Failed)) these = (these ≡ refusal then ++ done first ∷ []) ⊎ (these ≡ refusal first) ⊎ IsNoticed name these
+AreAsked name first then undone (Err (Fault fault)) these = these ≡ []
 
 -- where the root group's folder is this, these nodes have memory, and the root has to be a partition root or not
 module _ (root : List ℕ) (memory : Ids) (partition : Bool) where
@@ -78,14 +83,14 @@ module _ (root : List ℕ) (memory : Ids) (partition : Bool) where
   -- and the root's partition file with `root` if the root has to be a partition root
   abbrev pub AsksFor : KernelState → Event → KernelState → List Asked → Type 0
   AsksFor k (Wrote (MadeGroup parent name r)) new these =
-      AreAsked (Written (file_of k parent controls_file) controls_line) (Made (file_of k parent (below name))) (Unmade (file_of k parent (below name))) r these
+      AreAsked name (Written (file_of k parent controls_file) controls_line) (Made (file_of k parent (below name))) (Unmade (file_of k parent (below name))) r these
       × IsNamed name r
   AsksFor k (Wrote (RemovedGroup g r)) new these = IsAsked (Removed (file_of k g [])) r these
   AsksFor k (Wrote (WroteCpus g cpus r)) new these =
       AreAskedAndLooked (Written (file_of k g cpus_file) (list_line cpus))
       (looks_behind partition root (Compared (file_of new g cpus_in_effect) (list_line (effective_cpus new.tree g)))) r these
   AsksFor k (Wrote (WroteMems g mems r)) new these = IsAsked (Written (file_of k g mems_file) (list_line (granted mems memory))) r these
-  AsksFor k (Wrote (EndedGroup g r)) new these = IsAskedAt (place_of k.tree g) (Written (file_of k g kill_file) kill_line) r these
+  AsksFor k (Wrote (EndedGroup g r)) new these = IsAskedAt (place_of k.tree g) root (Written (file_of k g kill_file) kill_line) r these
   AsksFor k event new these = these ≡ []
 
 module _ (site : Site) where

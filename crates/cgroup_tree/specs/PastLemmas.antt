@@ -1,10 +1,11 @@
 -- That files stand for the tree after any calls, proved.
 use Rattle.std.proofs.Common.{◌≡◌, ℕ, suc, true, false, refl, sym, ap, ◌∙◌, subst, inl, inr}
+use Rattle.std.proofs.lemmas.List.{append_assoc}
 use Rattle.std.specs.List.{list_any}
 use Rattle.std.specs.Prelude.{◌⊎◌, Bool, List, [], ◌∷◌, ◌++◌, Option, Some, None, is_some, is_none, option_map, Result, Ok, Err, not, if◌then◌else◌}
 use Rattle.faults.specs.declared.or_memory.OrMemory.{OrMemory}
 use Rattle.faults.specs.declared.or_memory.OrMemory.TheVariants.{Memory, Fault}
-use Rattle.std.proofs.lemmas.Bool.{both_ways}
+use Rattle.std.proofs.lemmas.Bool.{both_ways, true≢false}
 use Rattle.std.proofs.lemmas.Option.{same_Some, none-some}
 use Rattle.cpu_set.specs.Ids.{Ids}
 use Rattle.cpuset_tree.specs.declared.Group.{Group}
@@ -31,17 +32,17 @@ use Rattle.kernel_model.specs.Names.{HaveOwnNames}
 use Rattle.kernel_model.specs.Refusals.{make_refusal, write_refusal}
 use Rattle.kernel_model.specs.Cases.{MakesGroup, RemovesGroup, WritesCpus, WritesMems, EndsGroup}
 use Rattle.kernel_model.specs.WellFormed.{IsWellFormed}
-use Rattle.cgroup_tree.specs.Asked.{Deed, Asked, Made, Removed, Unmade, Written, Compared, done, refused}
-use Rattle.cgroup_tree.specs.Mirrored.{IsNamed, looks_behind}
-use Rattle.cgroup_tree.specs.Paths.{is_slash, folder, below, cpus_file, mems_file, kill_file, kill_line, controls_file, controls_line, list_line}
+use Rattle.cgroup_tree.specs.Asked.{Deed, Remark, Asked, Made, Removed, Unmade, Written, Compared, Told, NoRoom, NoName, IsLeft, path_of, remark_on, done, refusal, notice}
+use Rattle.cgroup_tree.specs.Mirrored.{IsNamed, looked, looks_behind}
+use Rattle.cgroup_tree.specs.Paths.{is_slash, folder, below, cpus_file, mems_file, kill_file, kill_line, controls_file, controls_line, partition_file, partition_line, list_line}
 use Rattle.cgroup_tree.specs.Standing.{text_in, StandsFor, HavePlainNames, AreApart}
 use Rattle.cgroup_tree.specs.StandingLemmas.{folder_same, writes_stand, places_written, places_written_mems}
-use Rattle.cgroup_tree.specs.ChangeLemmas.{folders_stand, passed_on, unmade, gone, looked_behind, entry_left, there_left}
+use Rattle.cgroup_tree.specs.ChangeLemmas.{folders_stand, passed_on, unmade, gone, noted, refused_and_told, looked_behind, entry_left, there_left}
 use Rattle.cgroup_tree.specs.ApartLemmas.{plain_names_apart, one_folder_there, entry_placed, some_of}
-use Rattle.cgroup_tree.specs.Events.{Event, Wrote, Forked, Exited, WentOffline, CameOnline, Happens, IsAsked, IsAskedAt, AreAsked, AreAskedAndLooked, AsksFor, IsNew, Past}
+use Rattle.cgroup_tree.specs.Events.{Event, Wrote, Forked, Exited, WentOffline, CameOnline, Happens, IsAsked, IsAskedAt, IsNoticed, AreAsked, AreAskedAndLooked, AsksFor, IsNew, Past}
 use Rattle.cgroup_tree.specs.Site.{Site}
 use Rattle.cgroup_tree.specs.Stands.{PastsStand}
-use Rattle.cgroup_tree.specs.PastsTold.{PastsAreTold}
+use Rattle.cgroup_tree.specs.PastsTold.{PastsAreTold, AreToldBehind, AreTold, RefusalsAreTold}
 
 -- a group has a place exactly where nothing stands against a write of it
 placed_at : (name : List ℕ) (parent : Option Group)
@@ -96,28 +97,35 @@ module _ (root : List ℕ) (memory : Ids) (old : KernelState) (before : List Ask
   part_none : (t : TreeState) (these : List Asked) → t ≡ old.tree → these ≡ [] → PartOf t these
   part_none t these same none = in_tree t old.tree these same (of_calls old.tree these [] none (record { stands = was.stands; plain = was.plain }))
 
-  part_refused : (t : TreeState) (deed : Deed) (these : List Asked) → t ≡ old.tree → these ≡ refused deed ∷ [] → PartOf t these
+  part_refused : (t : TreeState) (deed : Deed) (these : List Asked) → t ≡ old.tree → these ≡ refusal deed → PartOf t these
   part_refused t deed these same are =
-      in_tree t old.tree these same (of_calls old.tree these (refused deed ∷ []) are
-      (record { stands = writes_stand.refused root memory old.tree deed before was.stands; plain = was.plain }))
+      in_tree t old.tree these same (of_calls old.tree these (refusal deed) are
+      (record { stands = refused_and_told root memory old.tree deed before was.stands; plain = was.plain }))
 
-  part_failed : (t : TreeState) (deed : Deed) (these : List Asked) → t ≡ old.tree → (these ≡ refused deed ∷ []) ⊎ (these ≡ []) → PartOf t these
-  part_failed t deed these same (inl are) = part_refused t deed these same are
-  part_failed t deed these same (inr none) = part_none t these same none
+  part_noticed : (t : TreeState) (name : List ℕ) (remark : Remark) (these : List Asked) → t ≡ old.tree → these ≡ notice name remark → PartOf t these
+  part_noticed t name remark these same are =
+      in_tree t old.tree these same (of_calls old.tree these (notice name remark) are
+      (record { stands = noted root memory old.tree name remark before was.stands; plain = was.plain }))
+
+  part_failed : (t : TreeState) (name : List ℕ) (deed : Deed) (these : List Asked) → t ≡ old.tree → (these ≡ refusal deed) ⊎ IsNoticed name these → PartOf t these
+  part_failed t name deed these same (inl are) = part_refused t deed these same are
+  part_failed t name deed these same (inr (inl are)) = part_noticed t name NoRoom these same are
+  part_failed t name deed these same (inr (inr are)) = part_noticed t name NoName these same are
 
   -- a write of CPUs
   cpus_part : (partition : Bool) (g : Group) (cpus : Ids) (r : Result (Unit {0}) KernelFault) (new : KernelState) (these : List Asked) → WritesCpus old g cpus r new
       → (path line : List ℕ) → AreAskedAndLooked (Written (root ++ (folder old.tree g ++ cpus_file)) (list_line cpus)) (looks_behind partition root (Compared path line)) r these
       → PartOf new.tree these
-  cpus_part partition g cpus (Ok value) new these h path line are =
+  cpus_part partition g cpus (Ok value) new these h path line (same, intact, are) =
       let stands : StandsFor root memory (with_cpus old.tree g cpus) (done (Written (root ++ (folder old.tree g ++ cpus_file)) (list_line cpus)) ∷ before) =
       writes_stand.cpus root memory old.tree g cpus before apart_old (placed_free old g h.0) was.stands in
       let plain : HavePlainNames (with_cpus old.tree g cpus) = λ p q name is. was.plain p q name (sym (places_written old.tree g cpus p) ∙ is) in
       in_tree new.tree (with_cpus old.tree g cpus) these (ap tree_of h.1) (of_calls (with_cpus old.tree g cpus) these _ are (record {
-        stands = looked_behind partition root memory (with_cpus old.tree g cpus) path line (done (Written (root ++ (folder old.tree g ++ cpus_file)) (list_line cpus))) before stands;
+        stands = looked_behind partition root memory (with_cpus old.tree g cpus) path line same intact (done (Written (root ++ (folder old.tree g ++ cpus_file)) (list_line cpus))) before stands;
         plain = plain;
       }))
-  cpus_part partition g cpus (Err Failed) new these h path line are = part_refused new.tree _ these (ap tree_of h) are
+  cpus_part partition g cpus (Err Failed) new these h path line are =
+      part_refused new.tree (Written (root ++ (folder old.tree g ++ cpus_file)) (list_line cpus)) these (ap tree_of h) are
   cpus_part partition g cpus (Err fault) new these h path line are = part_none new.tree these (ap tree_of h.1) are
 
   -- of memory nodes
@@ -128,7 +136,8 @@ module _ (root : List ℕ) (memory : Ids) (old : KernelState) (before : List Ask
         stands = writes_stand.mems root memory old.tree g mems before apart_old (placed_free old g h.0) was.stands;
         plain = λ p q name is. was.plain p q name (sym (places_written_mems old.tree g mems p) ∙ is);
       }))
-  mems_part g mems (Err Failed) new these h are = part_refused new.tree _ these (ap tree_of h) are
+  mems_part g mems (Err Failed) new these h are =
+      part_refused new.tree (Written (root ++ (folder old.tree g ++ mems_file)) (list_line (granted mems memory))) these (ap tree_of h) are
   mems_part g mems (Err fault) new these h are = part_none new.tree these (ap tree_of h.1) are
 
   -- an end of processes
@@ -139,12 +148,14 @@ module _ (root : List ℕ) (memory : Ids) (old : KernelState) (before : List Ask
         stands = writes_stand.killed root memory old.tree g before was.stands;
         plain = was.plain;
       }))
-  end_part g (Err Failed) new these h are = part_refused new.tree _ these (ap tree_of h) are
+  end_part g (Err Failed) new these h are = part_refused new.tree (Written (root ++ (folder old.tree g ++ kill_file)) kill_line) these (ap tree_of h) are
   end_part g (Err fault) new these h are = part_none new.tree these (ap tree_of h.1) are
 
   end_at : (place : Option (Group × List ℕ)) (g : Group) (r : Result (Unit {0}) KernelFault) (new : KernelState) (these : List Asked) → EndsGroup old g r new
-      → IsAskedAt place (Written (root ++ (folder old.tree g ++ kill_file)) kill_line) r these → PartOf new.tree these
-  end_at None g r new these h none = part_none new.tree these (writes_keep_tree.end old new g r h) none
+      → IsAskedAt place root (Written (root ++ (folder old.tree g ++ kill_file)) kill_line) r these → PartOf new.tree these
+  end_at None g (Ok value) new these h none = part_none new.tree these (ap tree_of h.1) none
+  end_at None g (Err Failed) new these h are = part_noticed new.tree root IsLeft these (ap tree_of h) are
+  end_at None g (Err fault) new these h none = part_none new.tree these (ap tree_of h.1) none
   end_at (Some place) g r new these h are = end_part g r new these h are
 
   -- a group that is removed
@@ -160,7 +171,7 @@ module _ (root : List ℕ) (memory : Ids) (old : KernelState) (before : List Ask
         plain = λ p q name is. was.plain p q name
             (ap place_in (entry_left old.tree g well p (there_left old.tree g well p (ap is_some is))) ∙ is);
       }))
-  remove_part g (Err Failed) new these h are = part_refused new.tree _ these (ap tree_of h) are
+  remove_part g (Err Failed) new these h are = part_refused new.tree (Removed (root ++ (folder old.tree g ++ []))) these (ap tree_of h) are
   remove_part g (Err fault) new these h are = part_none new.tree these (ap tree_of h.1) are
 
   -- a group that is made
@@ -195,7 +206,7 @@ module _ (root : List ℕ) (memory : Ids) (old : KernelState) (before : List Ask
         ] refl
 
     make_part : (r : Result Group (OrMemory KernelFault)) (new : KernelState) (these : List Asked) → MakesGroup old parent name r new
-        → AreAsked controls folder_made folder_unmade r these → IsNamed name r → PartOf new.tree these
+        → AreAsked name controls folder_made folder_unmade r these → IsNamed name r → PartOf new.tree these
     make_part (Ok g) new these h are named =
         let adds : AddsGroup old.tree parent name g new.tree = h.1.does in
         let plain = named_plain new.tree g (added_leaves old.tree new.tree parent name g adds) named.no_slash in
@@ -214,16 +225,16 @@ module _ (root : List ℕ) (memory : Ids) (old : KernelState) (before : List Ask
             plain = was.plain;
           })
           | inr is ↦ of_calls old.tree these _ is (record {
-            stands = writes_stand.refused root memory old.tree folder_unmade (done folder_made ∷ done controls ∷ before) stands;
+            stands = refused_and_told root memory old.tree folder_unmade (done folder_made ∷ done controls ∷ before) stands;
             plain = was.plain;
           })
         ])
     make_part (Err (Fault Failed)) new these h (inl is) named =
         in_tree new.tree old.tree these (ap tree_of h) (of_calls old.tree these _ is (record {
-          stands = writes_stand.refused root memory old.tree folder_made (done controls ∷ before) (passed_on root memory old.tree parent before was.stands);
+          stands = refused_and_told root memory old.tree folder_made (done controls ∷ before) (passed_on root memory old.tree parent before was.stands);
           plain = was.plain;
         }))
-    make_part (Err (Fault Failed)) new these h (inr rest) named = part_failed new.tree controls these (ap tree_of h) rest
+    make_part (Err (Fault Failed)) new these h (inr rest) named = part_failed new.tree name controls these (ap tree_of h) rest
     make_part (Err (Fault fault)) new these h are named = part_none new.tree these (ap tree_of h.1) are
 
   -- where the groups stay
@@ -321,3 +332,96 @@ pasts_are_told site (WentOffline cpu r ∷ past) k calls (old, before, these, wa
     pasts_are_told site past old before was ∙ sym (events_keep_groups.offline old k cpu r happens).0.trace
 pasts_are_told site (CameOnline cpu r ∷ past) k calls (old, before, these, was, happens, asks, are) =
     pasts_are_told site past old before was ∙ sym (events_keep_groups.online old k cpu r happens).0.trace
+
+-- what was told of calls is so whatever was called behind them
+told_behind : (next : Option Deed) (calls : List Asked) → AreTold calls → AreToldBehind next calls
+unfolding AreToldBehind
+told_behind next [] told = tt
+told_behind next (call ∷ before) told =
+    (λ failed. absurd (none-some (Told (path_of call.deed) (remark_on call.deed)) (told.0 failed)), told.1)
+
+module _ (before : List Asked) (told : AreTold before) where
+  -- of one that was done, one that was refused, and looks
+  told_done : (deed : Deed) (calls : List Asked) → AreTold calls → AreTold (done deed ∷ calls)
+  unfolding AreToldBehind
+  told_done deed calls was = (λ failed. absurd (true≢false failed), told_behind (Some deed) calls was)
+
+  told_refused : (deed : Deed) (calls : List Asked) → AreTold calls → AreTold (refusal deed ++ calls)
+  unfolding AreToldBehind
+  told_refused deed calls was =
+      (λ failed. absurd (true≢false failed), (λ failed. refl, told_behind (Some deed) calls was))
+
+  told_looked : (deed : Deed) (same : Bool) (calls : List Asked) → AreTold calls → AreTold (looked deed same ++ calls)
+  told_looked deed true calls was = told_done deed calls was
+  told_looked deed false calls was = told_refused deed calls was
+
+  told_looks : (partition : Bool) (root : List ℕ) (look : Deed) (same intact : Bool) (calls : List Asked) → AreTold calls
+      → AreTold (looks_behind partition root look same intact ++ calls)
+  told_looks false root look same intact calls was = told_looked look same calls was
+  told_looks true root look same intact calls was =
+      rw (append_assoc (looked (Compared (root ++ partition_file) partition_line) intact) (looked look same) calls)
+      (told_looked (Compared (root ++ partition_file) partition_line) intact (looked look same ++ calls) (told_looked look same calls was))
+
+  told_of : (these those : List Asked) → these ≡ those → AreTold (those ++ before) → AreTold (these ++ before)
+  told_of these those are now = subst (λ (cs : List Asked). AreTold (cs ++ before)) (sym are) now
+
+  told_noticed : (name : List ℕ) (these : List Asked) → IsNoticed name these → AreTold (these ++ before)
+  told_noticed name these (inl are) = told_of these (notice name NoRoom) are (told_done (Told name NoRoom) before told)
+  told_noticed name these (inr are) = told_of these (notice name NoName) are (told_done (Told name NoName) before told)
+
+  told_asked : {A : Type 0} (deed : Deed) (r : Result A KernelFault) (these : List Asked) → IsAsked deed r these → AreTold (these ++ before)
+  told_asked deed (Ok value) these are = told_of these (done deed ∷ []) are (told_done deed before told)
+  told_asked deed (Err Failed) these are = told_of these (refusal deed) are (told_refused deed before told)
+  told_asked deed (Err fault) these are = told_of these [] are told
+
+  told_asked_at : {P A : Type 0} (place : Option P) (root : List ℕ) (deed : Deed) (r : Result A KernelFault) (these : List Asked) → IsAskedAt place root deed r these
+      → AreTold (these ++ before)
+  told_asked_at None root deed (Ok value) these are = told_of these [] are told
+  told_asked_at None root deed (Err Failed) these are = told_of these (notice root IsLeft) are (told_done (Told root IsLeft) before told)
+  told_asked_at None root deed (Err fault) these are = told_of these [] are told
+  told_asked_at (Some place) root deed r these are = told_asked deed r these are
+
+  told_both : {A : Type 0} (name : List ℕ) (first next undone : Deed) (r : Result A (OrMemory KernelFault)) (these : List Asked) → AreAsked name first next undone r these
+      → AreTold (these ++ before)
+  told_both name first next undone (Ok value) these are = told_of these _ are (told_done next (done first ∷ before) (told_done first before told))
+  told_both name first next undone (Err Memory) these (inl are) =
+      told_of these _ are (told_done undone (done next ∷ done first ∷ before) (told_done next (done first ∷ before) (told_done first before told)))
+  told_both name first next undone (Err Memory) these (inr are) =
+      told_of these _ are (told_refused undone (done next ∷ done first ∷ before) (told_done next (done first ∷ before) (told_done first before told)))
+  told_both name first next undone (Err (Fault Failed)) these (inl are) = told_of these _ are (told_refused next (done first ∷ before) (told_done first before told))
+  told_both name first next undone (Err (Fault Failed)) these (inr (inl are)) = told_of these _ are (told_refused first before told)
+  told_both name first next undone (Err (Fault Failed)) these (inr (inr are)) = told_noticed name these are
+  told_both name first next undone (Err (Fault fault)) these are = told_of these [] are told
+
+  told_wrote : {A : Type 0} (partition : Bool) (root : List ℕ) (write look : Deed) (r : Result A KernelFault) (these : List Asked)
+      → AreAskedAndLooked write (looks_behind partition root look) r these → AreTold (these ++ before)
+  told_wrote partition root write look (Ok value) these (same, intact, are) =
+      told_of these _ are (rw (append_assoc (looks_behind partition root look same intact) (done write ∷ []) before)
+      (told_looks partition root look same intact (done write ∷ before) (told_done write before told)))
+  told_wrote partition root write look (Err Failed) these are = told_of these (refusal write) are (told_refused write before told)
+  told_wrote partition root write look (Err fault) these are = told_of these [] are told
+
+  told_step : (root : List ℕ) (memory : Ids) (partition : Bool) (old : KernelState) (event : Event) (new : KernelState) (these : List Asked)
+      → AsksFor root memory partition old event new these → AreTold (these ++ before)
+  told_step root memory partition old (Wrote (MadeGroup parent name r)) new these are = told_both name _ _ _ r these are.0
+  told_step root memory partition old (Wrote (RemovedGroup g r)) new these are = told_asked _ r these are
+  told_step root memory partition old (Wrote (WroteCpus g cpus r)) new these are = told_wrote partition root _ _ r these are
+  told_step root memory partition old (Wrote (WroteMems g mems r)) new these are = told_asked _ r these are
+  told_step root memory partition old (Wrote (EndedGroup g r)) new these are = told_asked_at (place_of old.tree g) root _ r these are
+  told_step root memory partition old (Wrote (Spawned g r)) new these are = told_of these [] are told
+  told_step root memory partition old (Forked parent r) new these are = told_of these [] are told
+  told_step root memory partition old (Exited pid r) new these are = told_of these [] are told
+  told_step root memory partition old (WentOffline cpu r) new these are = told_of these [] are told
+  told_step root memory partition old (CameOnline cpu r) new these are = told_of these [] are told
+
+none_told : AreTold []
+unfolding AreToldBehind
+none_told = tt
+
+-- what the files refused was told
+pub refusals_are_told : RefusalsAreTold
+unfolding Past
+refusals_are_told site [] k calls (new, none) = subst (λ (cs : List Asked). AreTold cs) (sym none) none_told
+refusals_are_told site (event ∷ past) k calls (old, before, these, was, happens, asks, are) =
+    subst (λ (cs : List Asked). AreTold cs) (sym are)
+    (told_step before (refusals_are_told site past old before was) site.root site.memory site.partition old event k these asks)

@@ -6,9 +6,9 @@ ghost use Rattle.cgroup_tree.specs.Mirrored.{Tries, TriesBoth};
 ghost use Rattle.cgroup_tree.specs.Paths.{folder, below, controls_file, controls_line, kill_file, kill_line};
 ghost use Rattle.cgroup_tree.specs.Room.{HasRoom};
 
-use crate::GroupFiles;
 use crate::paths::{write_path, write_path_below};
 use crate::room::Room;
+use crate::{GroupFiles, telling};
 use kernel_model::{Group, ModelKernel};
 use std::io;
 
@@ -37,7 +37,7 @@ pub fn end_all<F: GroupFiles>(
         × (room.new.line ≡ room.old.line) }
 {
     write_path(&mut room.path, root, kernel, group, KILL_FILE);
-    files.write_file(room.path.as_str(), KILL_LINE.as_bytes())
+    telling::write(files, room.path.as_str(), KILL_LINE.as_bytes())
 }
 
 /// Removes the folder of a group.
@@ -55,7 +55,7 @@ pub fn remove_folder<F: GroupFiles>(
         × (room.new.line ≡ room.old.line) }
 {
     write_path(&mut room.path, root, kernel, group, "");
-    files.remove_folder(room.path.as_str())
+    telling::remove(files, room.path.as_str())
 }
 
 /// Makes the folder of a new group, whose parent's groups get the controller before. The folder's path is left in the
@@ -80,7 +80,7 @@ pub fn make_folder<F: GroupFiles>(
         × (room.new.line ≡ room.old.line) }
 {
     write_path(&mut room.path, root, kernel, parent, CONTROLS_FILE);
-    files.write_file(room.path.as_str(), CONTROLS_LINE.as_bytes())?;
+    telling::write(files, room.path.as_str(), CONTROLS_LINE.as_bytes())?;
     write_path_below(&mut room.path, root, kernel, parent, name);
-    files.make_folder(room.path.as_str())
+    telling::make(files, room.path.as_str())
 }

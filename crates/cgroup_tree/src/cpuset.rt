@@ -1,17 +1,17 @@
 //! The files of the kernel's interface that are called `cpuset.*`.
-ghost use Rattle.std.specs.Prelude.{◌≡◌, ◌≤◌, ◌++◌, [], ◌∷◌, length};
+ghost use Rattle.std.specs.Prelude.{◌≡◌, ◌≤◌, ◌++◌, length};
 ghost use Rattle.std.specs.String.{string_capacity};
 ghost use Rattle.cpuset_tree.specs.Effective.{granted};
 ghost use Rattle.cpuset_tree.specs.Places.{place_of};
-ghost use Rattle.cgroup_tree.specs.Asked.{Asks, Compared, Written, done};
-ghost use Rattle.cgroup_tree.specs.Mirrored.{TriesWhere};
+ghost use Rattle.cgroup_tree.specs.Asked.{Asks, Compared, Written};
+ghost use Rattle.cgroup_tree.specs.Mirrored.{TriesWhere, looked};
 ghost use Rattle.cgroup_tree.specs.Paths.{folder, list_line};
 ghost use Rattle.cgroup_tree.specs.Room.{HasRoom};
 
-use crate::GroupFiles;
 use crate::line::write_line;
 use crate::paths::write_path;
 use crate::room::{FILE_ROOM, LINE_ROOM, Room};
+use crate::{GroupFiles, telling};
 use cpu_set::IdSet;
 use kernel_model::{Group, ModelKernel};
 use std::io;
@@ -47,7 +47,7 @@ pub fn write_list<F: GroupFiles>(
     }
     write_path(&mut room.path, root, kernel, group, file);
     write_line(&mut room.line, ids);
-    files.write_file(room.path.as_str(), room.line.as_bytes())
+    telling::write(files, room.path.as_str(), room.line.as_bytes())
 }
 
 /// Looks whether a file of a group has this set.
@@ -59,16 +59,16 @@ pub fn compare_list<F: GroupFiles>(
     group: Group,
     file: &str,
     ids: &IdSet,
-)
+) -> bool
     requires name { length file.now ≤ FILE_ROOM }
     requires path { HasRoom (string_capacity room.old.path) root.now kernel.now.tree }
     requires line { LINE_ROOM ≤ string_capacity room.old.line }
-    ensures looks { Asks F.asked files.old (done (Compared (root.now ++ (folder kernel.now.tree group ++ file.now))
-        (list_line ids.now)) ∷ []) files.new }
+    ensures looks { Asks F.asked files.old (looked (Compared (root.now ++ (folder kernel.now.tree group ++ file.now))
+        (list_line ids.now)) result) files.new }
     ensures wider { (string_capacity room.old.path ≤ string_capacity room.new.path)
         × (string_capacity room.old.line ≤ string_capacity room.new.line) }
 {
     write_path(&mut room.path, root, kernel, group, file);
     write_line(&mut room.line, ids);
-    files.compare_line(room.path.as_str(), room.line.as_bytes());
+    telling::compare(files, room.path.as_str(), room.line.as_bytes())
 }

@@ -1,7 +1,9 @@
 //! What the folders and files of groups are asked for.
 ghost use Rattle.std.specs.Prelude.{List, [], ◌∷◌};
-ghost use Rattle.cgroup_tree.specs.Asked.{Asked, Asks, Compared, Made, Opening, Removed, Unmade, Written, done, is_made};
+ghost use Rattle.cgroup_tree.specs.Asked.{Asked, Asks, Compared, IsAnother, Made, Opening, Removed, Told, Unmade};
+ghost use Rattle.cgroup_tree.specs.Asked.{WasRefused, Written, done, is_made, why_not};
 
+use crate::{LineFault, Unasked};
 use std::io;
 
 /// Folders and files that can be made, removed and written, as those of a cgroup tree.
@@ -42,10 +44,23 @@ pub trait GroupFiles {
         ensures { Asks asked self.old (record { deed = Written path.now text.now; done = is_made result }
             ∷ []) self.new };
 
-    /// Tells the operator that memory is short for the path of a new folder of this name, which was not asked for.
-    fn tell_lack(&self, name: &str);
+    /// Looks whether the file of this path has this line. Nothing is changed.
+    ///
+    /// # Errors
+    /// It has another, or can't be read.
+    fn compare_line(&mut self, path: &str, line: &[u8]) -> Result<(), LineFault>
+        ensures { Asks asked self.old (record { deed = Compared path.now line.now; done = is_made result }
+            ∷ []) self.new };
 
-    /// Looks whether the file of this path has this line, and tells the operator where it has not. Nothing is changed.
-    fn compare_line(&mut self, path: &str, line: &[u8])
-        ensures { Asks asked self.old (done (Compared path.now line.now) ∷ []) self.new };
+    /// Tells the operator that a call of this path was refused; and the text, if one was to be written.
+    fn tell_refusal(&mut self, path: &str, text: &[u8], error: &io::Error)
+        ensures { Asks asked self.old (done (Told path.now WasRefused) ∷ []) self.new };
+
+    /// Tells the operator why the file of this path has not this line.
+    fn tell_line(&mut self, path: &str, line: &[u8], fault: &LineFault)
+        ensures { Asks asked self.old (done (Told path.now IsAnother) ∷ []) self.new };
+
+    /// Tells the operator why nothing was asked for of a folder of this name.
+    fn tell_unasked(&mut self, name: &str, why: Unasked)
+        ensures { Asks asked self.old (done (Told name.now (why_not why)) ∷ []) self.new };
 }

@@ -1,8 +1,8 @@
 //! The system's own folders and files.
 ghost use Rattle.std.specs.Prelude.{◌≡◌, is_some, true};
 
-use crate::GroupFiles;
 use crate::shown::Shown;
+use crate::{GroupFiles, LineFault, Unasked};
 use std::fs::{File, OpenOptions};
 use std::io::{ErrorKind, Write};
 use std::rt::Files;
@@ -30,6 +30,8 @@ pub struct HostFiles<'a, R> {
     pub adopt: bool,
     /// Whether the folder that was asked for last was there.
     pub found: bool,
+    /// Whether the file that was written last could be opened.
+    pub opened: bool,
 }
 
 impl<'a, R> HostFiles<'a, R> {
@@ -44,11 +46,12 @@ impl<'a, R> HostFiles<'a, R> {
             lock,
             adopt,
             found: false,
+            opened: false,
         }
     }
 }
 
-impl<R: Files + Alloc + Clock + Eprint> HostFiles<'_, R> {
+impl<R: Files + AllocGlobal + Clock + Eprint> HostFiles<'_, R> {
     /// Says on standard error what the system said of a path.
     fn note(&self, path: &str, error: &io::Error) {
         let _ = eprintln!(self.rt; "error: {}: {error}", Shown(path));
@@ -58,6 +61,15 @@ impl<R: Files + Alloc + Clock + Eprint> HostFiles<'_, R> {
     fn note_text(&self, path: &str, text: &[u8], error: &io::Error) {
         let text = str::from_utf8(text).unwrap_or("").trim_end();
         let _ = eprintln!(self.rt; "error: {}: {}: {error}", Shown(path), Shown(text));
+    }
+
+    /// Says on standard error what the system said of a path; and what was written, if the file was open.
+    fn note_refusal(&self, path: &str, text: &[u8], error: &io::Error) {
+        if self.opened && !text.is_empty() {
+            self.note_text(path, text, error);
+        } else {
+            self.note(path, error);
+        }
     }
 
     /// Says on standard error what a file has, and what it ought to have.
@@ -73,21 +85,11 @@ impl<R: Files + Alloc + Clock + Eprint> HostFiles<'_, R> {
         }
     }
 
-    /// What is answered where a file can't be opened: in a folder that is gone the write counts as done, since a group
-    /// that is not there has no process.
-    fn unopened(&self, path: &str, error: io::Error) -> io::Result<()> {
-        self.note(path, &error);
-        if self.is_gone(path) {
-            return Ok(());
-        }
-        self.note_plain(path, &error);
-        Err(error)
-    }
-
-    /// The same where a file is open, and does not take the text.
+    /// What is answered where a file does not take a text: in a folder that is gone the write counts as done, since a
+    /// group that is not there has no process.
     fn unwritten(&self, path: &str, text: &[u8], error: io::Error) -> io::Result<()> {
-        self.note_text(path, text, &error);
         if self.is_gone(path) {
+            self.note_refusal(path, text, &error);
             Ok(())
         } else {
             Err(error)
@@ -176,7 +178,7 @@ fn write_at_once<W: Write>(file: &mut W, text: &[u8]) -> io::Result<()> {
     Err(io::Error::from(ErrorKind::Interrupted))
 }
 
-impl<R: Files + Alloc + Clock + Eprint> GroupFiles for HostFiles<'_, R> {
+impl<R: Files + AllocGlobal + Clock + Eprint> GroupFiles for HostFiles<'_, R> {
     ghost asked = { λ files how _. (files.adopt ≡ how.adopt) × (is_some files.lock ≡ true) };
 
     /// A folder that is there counts as made where it may be there already.
@@ -189,26 +191,18 @@ impl<R: Files + Alloc + Clock + Eprint> GroupFiles for HostFiles<'_, R> {
                     self.found = true;
                     Ok(())
                 }
-            Err(error) => {
-                self.note(path, &error);
-                Err(error)
-            }
-            Ok(()) => Ok(()),
+            made => made,
         }
     }
 
     /// A folder that is gone counts as removed.
     fn remove_folder(&mut self, path: &str) -> io::Result<()> {
         match self.remove(path) {
-            Ok(()) => Ok(()),
-            Err(error) => {
+            Err(error) if error.kind() == ErrorKind::NotFound || self.is_absent(path) => {
                 self.note(path, &error);
-                if error.kind() == ErrorKind::NotFound || self.is_absent(path) {
-                    Ok(())
-                } else {
-                    Err(error)
-                }
+                Ok(())
             }
+            refused => refused,
         }
     }
 
@@ -222,26 +216,45 @@ impl<R: Files + Alloc + Clock + Eprint> GroupFiles for HostFiles<'_, R> {
 
     /// A file in a folder that is gone counts as written, and that which a folder of links has not.
     fn write_file(&mut self, path: &str, text: &[u8]) -> io::Result<()> {
+        self.opened = false;
         let mut file = match OpenOptions::new().write(true).open(self.rt, path) {
             Ok(file) => file,
             Err(error) if self.is_of_links(path, &error) => return Ok(()),
-            Err(error) => return self.unopened(path, error),
+            Err(error) => return self.unwritten(path, text, error),
         };
+        self.opened = true;
         match write_at_once(&mut file, text) {
             Ok(()) => Ok(()),
             Err(error) => self.unwritten(path, text, error),
         }
     }
 
-    fn tell_lack(&self, name: &str) {
-        let _ = eprintln!(self.rt; "error: {}: no memory for its path", Shown(name));
+    fn compare_line(&mut self, path: &str, line: &[u8]) -> Result<(), LineFault> {
+        match fs::read(self.rt, path) {
+            Ok(text) if text.as_slice() == line => Ok(()),
+            Ok(text) => Err(LineFault::Another(text)),
+            Err(error) => Err(LineFault::Unread(error)),
+        }
     }
 
-    fn compare_line(&mut self, path: &str, line: &[u8]) {
-        match fs::read(self.rt, path) {
-            Ok(text) if text.as_slice() == line => {}
-            Ok(text) => self.differs(path, text.as_slice(), line),
-            Err(error) => self.note(path, &error),
+    fn tell_refusal(&mut self, path: &str, text: &[u8], error: &io::Error) {
+        self.note_refusal(path, text, error);
+        self.note_plain(path, error);
+    }
+
+    fn tell_line(&mut self, path: &str, line: &[u8], fault: &LineFault) {
+        match fault {
+            LineFault::Another(text) => self.differs(path, text.as_slice(), line),
+            LineFault::Unread(error) => self.note(path, error),
         }
+    }
+
+    fn tell_unasked(&mut self, name: &str, why: Unasked) {
+        let why = match why {
+            Unasked::NoRoom => "no memory for its path",
+            Unasked::NoName => "no name of a folder",
+            Unasked::Root => "its processes are left",
+        };
+        let _ = eprintln!(self.rt; "error: {}: {why}", Shown(name));
     }
 }

@@ -8,7 +8,7 @@ ghost use Rattle.cgroup_tree.specs.Paths.{folder};
 ghost use Rattle.cgroup_tree.specs.Roots.{names_cpuset};
 ghost use Rattle.cgroup_tree.specs.Standing.{FoldersStand, PlainNamesApart, WritesStand, text_in};
 ghost use Rattle.cgroup_tree.specs.Stands.{PastsStand};
-ghost use Rattle.cgroup_tree.specs.PastsTold.{PastsAreTold};
+ghost use Rattle.cgroup_tree.specs.PastsTold.{PastsAreTold, RefusalsAreTold};
 
 /// If files do what they were asked for and nobody else writes, each group's files have what it requests. A write keeps
 /// it so, whether it is done or refused.
@@ -27,10 +27,12 @@ pub fn changes()
 {}
 
 /// Files stand for the tree after any list of calls of a mirrored kernel, whatever each of them returned. The writing
-/// calls of such a list are those that the kernel was asked for.
+/// calls of such a list are those that the kernel was asked for. Each call that the files refused was told with its
+/// path, and each look that found another line.
 pub fn pasts()
     ensures stand { PastsStand }
     ensures told { PastsAreTold }
+    ensures noted { RefusalsAreTold }
 {}
 
 /// A partition root and the groups outside it are two trees: the root of the one has the partition's CPUs, and that of
@@ -61,9 +63,9 @@ pub fn worked()
         (codes "web/cpuset.cpus") ≡ None }
     ensures has_cpusets { names_cpuset (codes "cpu cpuset io\n") ≡ true }
     ensures has_none { names_cpuset (codes "cpu cpusets io\n") ≡ false }
-    ensures looked_behind { looks_behind true (codes "/sys/fs/cgroup/pinned") (Written (codes "web") [])
+    ensures looked_behind { looks_behind true (codes "/sys/fs/cgroup/pinned") (Written (codes "web") []) true true
         ≡ done (Compared (codes "/sys/fs/cgroup/pinned/cpuset.cpus.partition") (codes "root\n"))
         ∷ done (Written (codes "web") []) ∷ [] }
-    ensures not_looked { looks_behind false (codes "/sys/fs/cgroup/pinned") (Written (codes "web") [])
+    ensures not_looked { looks_behind false (codes "/sys/fs/cgroup/pinned") (Written (codes "web") []) true true
         ≡ done (Written (codes "web") []) ∷ [] }
 {}

@@ -13,7 +13,11 @@
 //!   done. If it failed, it asked for that write and was refused; a group that is made may fail with nothing asked.
 //!   If something stood against it in the model, it asked for nothing. Behind a write of CPUs that is done the files
 //!   are asked to compare `cpuset.cpus.effective` with what the model has in effect and, if the root has to be a
-//!   partition root, the root's `cpuset.cpus.partition` with `root`. What such a call reads and tells is not said here.
+//!   partition root, the root's `cpuset.cpus.partition` with `root`.
+//! - What is refused is told to the operator behind it, with its path, and so is a file that has another line than it
+//!   was compared with (`refusal`, `looked`). If a group can't be made and nothing was asked for it, the reason is told
+//!   with its name. So each failed write has its note, and each difference in effect (`laws::pasts`). What a note's
+//!   text is, no clause says.
 //! - A write takes no memory. There is room for the path of each file of each group, and for the line of any set
 //!   (`HasRoom`): the kernel's making takes it, and a group's. Only a group that is made fails for want of it.
 //! - No path leaves the root: names with a slash, `.` and `..` are refused.
@@ -59,6 +63,7 @@ mod host_files;
 mod host_trees;
 pub mod laws;
 mod line;
+mod line_fault;
 mod mirror;
 mod mirrored_kernel;
 mod partition;
@@ -67,6 +72,8 @@ mod room;
 mod root;
 mod shown;
 mod sited;
+mod telling;
+mod unasked;
 
 pub use difference::Difference;
 pub use fault::RootFault;
@@ -74,7 +81,9 @@ pub use group_files::GroupFiles;
 pub use group_trees::GroupTrees;
 pub use host_files::HostFiles;
 pub use host_trees::HostTrees;
+pub use line_fault::LineFault;
 pub use mirrored_kernel::MirroredKernel;
 pub use room::Room;
 pub use root::{OpenTree, RootOptions, open_tree};
 pub use sited::Sited;
+pub use unasked::Unasked;

@@ -8,19 +8,19 @@ ghost use Rattle.kernel_model.specs.declared.KernelFault.TheVariants.{Failed};
 ghost use Rattle.kernel_model.specs.Told.{told};
 ghost use Rattle.kernel_model.specs.Cases.{MakesGroup, RemovesGroup, WritesCpus, WritesMems, Spawns, EndsGroup, Forks};
 ghost use Rattle.kernel_model.specs.Cases.{Exits, GoesOffline, ComesOnline};
-ghost use Rattle.cgroup_tree.specs.Asked.{Asks, Compared, Made, Removed, Unmade, Written, done};
+ghost use Rattle.cgroup_tree.specs.Asked.{Asks, Compared, Made, Removed, Unmade, Written};
 ghost use Rattle.cgroup_tree.specs.Mirrored.{mirrored, Mirrors, MirrorsAt, MirrorsBoth};
-ghost use Rattle.cgroup_tree.specs.Mirrored.{IsNamed, MirrorsLooks, looks_behind};
+ghost use Rattle.cgroup_tree.specs.Mirrored.{AsksLooks, IsNamed, MirrorsLooks, looked, looks_behind};
 ghost use Rattle.cgroup_tree.specs.Room.{HasRoom};
 ghost use Rattle.cgroup_tree.specs.Paths.{folder, below, list_line, cpus_file, mems_file, kill_file, controls_file};
 ghost use Rattle.cgroup_tree.specs.Paths.{cpus_in_effect, kill_line, controls_line};
 
-use crate::GroupFiles;
 use crate::cgroup::{end_all, make_folder, remove_folder};
 use crate::cpuset::{compare_list, with_memory, write_list};
 use crate::partition::compare_partition;
 use crate::paths::{is_name, widen};
 use crate::room::{LINE_ROOM, Room};
+use crate::{GroupFiles, Unasked, telling};
 use cpu_set::IdSet;
 use faults::OrMemory;
 use kernel_model::{CallMade, Group, Kernel, KernelFault, ModelKernel, Trace};
@@ -131,7 +131,7 @@ impl<F: GroupFiles> Mirror<F> {
         requires path { HasRoom (string_capacity self.old.room.path) (string_bytes self.old.root) self.old.inner.tree }
         ensures case { MakesGroup (mirrored self.old.trace.calls self.old.inner) parent name.now result
             (mirrored self.new.trace.calls self.new.inner) }
-        ensures asks { MirrorsBoth F.asked self.old.files
+        ensures asks { MirrorsBoth F.asked self.old.files name.now
             (Written (string_bytes self.old.root ++ (folder self.old.inner.tree parent ++ controls_file)) controls_line)
             (Made (string_bytes self.old.root ++ (folder self.old.inner.tree parent ++ below name.now)))
             (Unmade (string_bytes self.old.root ++ (folder self.old.inner.tree parent ++ below name.now))) result
@@ -150,11 +150,12 @@ impl<F: GroupFiles> Mirror<F> {
         }
         let failed = CallMade::Group(parent, name, Err(OrMemory::Fault(KernelFault::Failed)));
         if !is_name(name.as_bytes()) {
+            self.files.tell_unasked(name, Unasked::NoName);
             return Err(OrMemory::Fault(self.fail(&failed)));
         }
         let (root, kernel) = (self.root.as_str(), &self.inner);
         if widen(&mut self.room.path, root, kernel, parent, name).is_err() {
-            self.files.tell_lack(name);
+            self.files.tell_unasked(name, Unasked::NoRoom);
             return Err(OrMemory::Fault(self.fail(&failed)));
         }
         if make_folder(&mut self.files, &mut self.room, root, kernel, parent, name).is_err() {
@@ -162,7 +163,7 @@ impl<F: GroupFiles> Mirror<F> {
         }
         let answer = self.make_in_model(parent, name);
         if let Err(OrMemory::Memory) = answer {
-            let _ = self.files.unmake_folder(self.room.path.as_str());
+            let _ = telling::unmake(&mut self.files, self.room.path.as_str());
         }
         answer
     }
@@ -235,10 +236,9 @@ impl<F: GroupFiles> Mirror<F> {
         requires path { HasRoom (string_capacity self.old.room.path) (string_bytes self.old.root) self.old.inner.tree }
         requires line { LINE_ROOM ≤ string_capacity self.old.room.line }
         requires there { has_group self.old.inner.tree group ≡ true }
-        ensures looks { Asks F.asked self.old.files
-            (looks_behind self.old.partition (string_bytes self.old.root) (Compared (string_bytes self.old.root
-            ++ (folder self.old.inner.tree group ++ cpus_in_effect))
-            (list_line (effective_cpus self.old.inner.tree group)))) self.new.files }
+        ensures looks { AsksLooks F.asked self.old.files self.old.partition (string_bytes self.old.root)
+            (Compared (string_bytes self.old.root ++ (folder self.old.inner.tree group ++ cpus_in_effect))
+            (list_line (effective_cpus self.old.inner.tree group))) self.new.files }
         ensures same { (self.new.root ≡ self.old.root) × (self.new.memory ≡ self.old.memory)
             × (self.new.partition ≡ self.old.partition) }
         ensures model { (self.new.inner ≡ self.old.inner) × (self.new.trace ≡ self.old.trace) }
@@ -252,13 +252,13 @@ impl<F: GroupFiles> Mirror<F> {
     }
 
     /// Looks whether a group has in effect the CPUs that the model says.
-    fn look_at_cpus(&mut self, group: Group)
+    fn look_at_cpus(&mut self, group: Group) -> bool
         requires path { HasRoom (string_capacity self.old.room.path) (string_bytes self.old.root) self.old.inner.tree }
         requires line { LINE_ROOM ≤ string_capacity self.old.room.line }
         requires there { has_group self.old.inner.tree group ≡ true }
-        ensures looks { Asks F.asked self.old.files (done (Compared (string_bytes self.old.root
+        ensures looks { Asks F.asked self.old.files (looked (Compared (string_bytes self.old.root
             ++ (folder self.old.inner.tree group ++ cpus_in_effect))
-            (list_line (effective_cpus self.old.inner.tree group))) ∷ []) self.new.files }
+            (list_line (effective_cpus self.old.inner.tree group))) result) self.new.files }
         ensures same { (self.new.root ≡ self.old.root) × (self.new.memory ≡ self.old.memory)
             × (self.new.partition ≡ self.old.partition) }
         ensures model { (self.new.inner ≡ self.old.inner) × (self.new.trace ≡ self.old.trace) }
@@ -276,7 +276,7 @@ impl<F: GroupFiles> Mirror<F> {
             group,
             CPUS_IN_EFFECT,
             ids,
-        );
+        )
     }
 
     /// Writes what a group requests of nodes, of which the files get those that have memory.
@@ -333,7 +333,7 @@ impl<F: GroupFiles> Mirror<F> {
         ensures case { EndsGroup (mirrored self.old.trace.calls self.old.inner) group result
             (mirrored self.new.trace.calls self.new.inner) }
         ensures asks { MirrorsAt F.asked self.old.files (place_of self.old.inner.tree group)
-            (Written (string_bytes self.old.root
+            (string_bytes self.old.root) (Written (string_bytes self.old.root
             ++ (folder self.old.inner.tree group ++ kill_file)) kill_line) result self.new.files }
         ensures same { (self.new.root ≡ self.old.root) × (self.new.memory ≡ self.old.memory)
             × (self.new.partition ≡ self.old.partition) }
@@ -346,6 +346,7 @@ impl<F: GroupFiles> Mirror<F> {
         let failed = CallMade::End(group, Err(KernelFault::Failed));
         let (root, kernel) = (self.root.as_str(), &self.inner);
         if kernel.place(group).is_none() {
+            self.files.tell_unasked(root, Unasked::Root);
             return Err(self.fail(&failed));
         }
         if end_all(&mut self.files, &mut self.room, root, kernel, group).is_err() {

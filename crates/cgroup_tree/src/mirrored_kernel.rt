@@ -131,7 +131,7 @@ impl<F: GroupFiles, S: Sited> Kernel for MirroredKernel<F, S> {
     fn make_group(&mut self, parent: Group, name: &str) -> Result<Group, OrMemory<KernelFault>>
         ensures case { MakesGroup (mirrored self.old.trace self.old.inner) parent name.now result
             (mirrored self.new.trace self.new.inner) }
-        ensures asks { MirrorsBoth F.asked self.old.files
+        ensures asks { MirrorsBoth F.asked self.old.files name.now
             (Written (self.old.root ++ (folder self.old.inner.tree parent ++ controls_file)) controls_line)
             (Made (self.old.root ++ (folder self.old.inner.tree parent ++ below name.now)))
             (Unmade (self.old.root ++ (folder self.old.inner.tree parent ++ below name.now))) result self.new.files }
@@ -179,7 +179,7 @@ impl<F: GroupFiles, S: Sited> Kernel for MirroredKernel<F, S> {
     fn end_group(&mut self, group: Group) -> Result<(), KernelFault>
         ensures case { EndsGroup (mirrored self.old.trace self.old.inner) group result
             (mirrored self.new.trace self.new.inner) }
-        ensures asks { MirrorsAt F.asked self.old.files (place_of self.old.inner.tree group)
+        ensures asks { MirrorsAt F.asked self.old.files (place_of self.old.inner.tree group) self.old.root
             (Written (self.old.root ++ (folder self.old.inner.tree group ++ kill_file)) kill_line) result
             self.new.files }
     {

@@ -1,13 +1,14 @@
 //! The file by which a group is a partition root, whose CPUs the kernel keeps all groups outside from.
-ghost use Rattle.std.specs.Prelude.{◌≡◌, ◌↔◌, ◌+◌, ◌≤◌, ◌++◌, [], ◌∷◌, IsTrue, length, true};
+ghost use Rattle.std.specs.Prelude.{◌≡◌, ◌↔◌, ◌+◌, ◌≤◌, ◌++◌, IsTrue, length, true};
 ghost use Rattle.std.specs.String.{string_capacity};
-ghost use Rattle.cgroup_tree.specs.Asked.{Asks, AsksSome, Compared, done};
+ghost use Rattle.cgroup_tree.specs.Asked.{Asks, AsksSome, Compared};
+ghost use Rattle.cgroup_tree.specs.Mirrored.{looked};
 ghost use Rattle.cgroup_tree.specs.Paths.{partition_file, partition_line};
 ghost use Rattle.cgroup_tree.specs.Roots.{LooksAtPartition, PartitionTells};
 
 use crate::paths::{path_below, push_within};
 use crate::room::{FILE_ROOM, Room};
-use crate::{Difference, GroupFiles, GroupTrees, RootFault};
+use crate::{Difference, GroupFiles, GroupTrees, RootFault, telling};
 use std::alloc::Global;
 
 /// The file's name (cgroup v2, "Cpuset Interface Files").
@@ -51,17 +52,17 @@ fn look_at_file<T: GroupTrees>(alloc: Global, trees: &mut T, root: &str) -> Resu
 }
 
 /// Looks whether a root is still a partition root.
-pub fn compare_partition<F: GroupFiles>(files: &mut F, room: &mut Room, root: &str)
+pub fn compare_partition<F: GroupFiles>(files: &mut F, room: &mut Room, root: &str) -> bool
     requires path { length root.now + FILE_ROOM ≤ string_capacity room.old.path }
     ensures looks { Asks F.asked files.old
-        (done (Compared (root.now ++ partition_file) partition_line) ∷ []) files.new }
+        (looked (Compared (root.now ++ partition_file) partition_line) result) files.new }
     ensures wider { (string_capacity room.old.path ≤ string_capacity room.new.path)
         × (room.new.line ≡ room.old.line) }
 {
     room.path.clear();
     push_within(&mut room.path, root);
     push_within(&mut room.path, PARTITION_FILE);
-    files.compare_line(room.path.as_str(), PARTITION_LINE.as_bytes());
+    telling::compare(files, room.path.as_str(), PARTITION_LINE.as_bytes())
 }
 
 /// Whether this is the text of a valid partition root.

@@ -1,5 +1,6 @@
 -- What files name in the midst of a call, and what their texts are as lists.
 use Rattle.std.proofs.Common.{◌≡◌, inl, inr, ℕ, ◌≤◌, ◌^◌, Bool, true, false, List, [], ◌∷◌, ◌++◌, refl, sym, ap, ◌∙◌, subst, lit≤}
+use Rattle.std.proofs.lemmas.List.{append_assoc}
 use Rattle.std.specs.List.{list_any}
 use Rattle.std.specs.Prelude.{◌⊎◌, Option, Some, None, is_some, Result, Ok, Err}
 use Rattle.faults.specs.declared.or_memory.OrMemory.{OrMemory}
@@ -22,13 +23,13 @@ use Rattle.kernel_model.specs.RefusalLemmas.{calls_are_free}
 use Rattle.kernel_model.specs.NameLemmas.{none_of_name}
 use Rattle.kernel_model.specs.Refusals.{make_refusal}
 use Rattle.kernel_model.specs.Cases.{MakesGroup, WritesCpus}
-use Rattle.cgroup_tree.specs.Asked.{Deed, Asked, Made, Unmade, Written, Compared, done, refused}
-use Rattle.cgroup_tree.specs.Mirrored.{IsNamed, looks_behind}
-use Rattle.cgroup_tree.specs.Paths.{is_slash, folder, below, cpus_file, controls_file, controls_line, list_line}
+use Rattle.cgroup_tree.specs.Asked.{Deed, Asked, Made, Unmade, Written, Compared, Told, NoRoom, NoName, IsLeft, done, refusal}
+use Rattle.cgroup_tree.specs.Mirrored.{IsNamed, looked, looks_behind}
+use Rattle.cgroup_tree.specs.Paths.{is_slash, folder, below, cpus_file, controls_file, controls_line, partition_file, partition_line, list_line}
 use Rattle.cgroup_tree.specs.Site.{Site}
 use Rattle.cgroup_tree.specs.Standing.{text_in, IsLineOf, StandsFor}
 use Rattle.cgroup_tree.specs.StandingLemmas.{writes_stand}
-use Rattle.cgroup_tree.specs.ChangeLemmas.{passed_on, unmade, looked}
+use Rattle.cgroup_tree.specs.ChangeLemmas.{passed_on, unmade, compared, refused_and_told, looked_at}
 use Rattle.cgroup_tree.specs.ApartLemmas.{plain_names_apart, one_folder_there, entry_placed, some_of}
 use Rattle.cgroup_tree.specs.PastLemmas.{Kept, placed_free, past_kept, pasts_stand}
 use Rattle.cgroup_tree.specs.Events.{Event, Wrote, Forked, Exited, WentOffline, CameOnline, Happens, IsAsked, IsAskedAt, AreAsked, AreAskedAndLooked, AsksFor, Past}
@@ -50,31 +51,49 @@ module _ (root : List ℕ) (memory : Ids) (partition : Bool) (old new : KernelSt
     one : (call : Asked) → these ≡ call ∷ [] → AtEachMoment Stood these
     one call are = of_these (call ∷ []) are (λ all. (inr all, inl was.stands))
 
+    -- one that was refused, and told
+    failed : (deed : Deed) → these ≡ refusal deed → AtEachMoment Stood these
+    failed deed are = of_these (refusal deed) are (λ all. (inr all, (inl (writes_stand.refused root memory old.tree deed before was.stands), inl was.stands)))
+
     asked : {A : Type 0} (deed : Deed) (r : Result A KernelFault) → IsAsked deed r these → AtEachMoment Stood these
     asked deed (Ok value) are = one (done deed) are
-    asked deed (Err Failed) are = one (refused deed) are
+    asked deed (Err Failed) are = failed deed are
     asked deed (Err fault) are = none are
 
-    asked_at : {P A : Type 0} (place : Option P) (deed : Deed) (r : Result A KernelFault) → IsAskedAt place deed r these → AtEachMoment Stood these
-    asked_at None deed r are = none are
+    asked_at : {P A : Type 0} (place : Option P) (deed : Deed) (r : Result A KernelFault) → IsAskedAt place root deed r these → AtEachMoment Stood these
+    asked_at None deed (Ok value) are = none are
+    asked_at None deed (Err Failed) are = one (done (Told root IsLeft)) are
+    asked_at None deed (Err fault) are = none are
     asked_at (Some place) deed r are = asked deed r are
 
+    -- a look, behind calls by which the new kernel stands
+    look : (path line : List ℕ) (same : Bool) (calls : List Asked) → StandsFor root memory new.tree (calls ++ before) → AtEachMoment Stood calls
+        → AtEachMoment Stood (looked (Compared path line) same ++ calls)
+    look path line true calls stands each = (inr (compared root memory new.tree path line (calls ++ before) stands), each)
+    look path line false calls stands each =
+        (inr (refused_and_told root memory new.tree (Compared path line) (calls ++ before) stands),
+        (inr (writes_stand.refused root memory new.tree (Compared path line) (calls ++ before) stands), each))
+
     -- a write of CPUs, and the looks behind it
-    looks : (partition : Bool) (path line : List ℕ) (write : Asked) → StandsFor root memory new.tree (write ∷ before)
-        → these ≡ looks_behind partition root (Compared path line) ++ write ∷ [] → AtEachMoment Stood these
-    looks false path line write stands are = of_these (done (Compared path line) ∷ write ∷ []) are (λ all. (inr all, (inr stands, inl was.stands)))
-    looks true path line write stands are =
-        of_these _ are (λ all. (inr all, (inr (looked root memory new.tree path line (write ∷ before) stands), (inr stands, inl was.stands))))
+    looks : (partition : Bool) (path line : List ℕ) (same intact : Bool) (write : Asked) → StandsFor root memory new.tree (write ∷ before)
+        → these ≡ looks_behind partition root (Compared path line) same intact ++ write ∷ [] → AtEachMoment Stood these
+    looks false path line same intact write stands are = subst (AtEachMoment Stood) (sym are) (look path line same (write ∷ []) stands (inr stands, inl was.stands))
+    looks true path line same intact write stands are =
+        let effect : List Asked = looked (Compared path line) same in
+        let behind : StandsFor root memory new.tree ((effect ++ write ∷ []) ++ before) =
+        rw (append_assoc effect (write ∷ []) before) (looked_at root memory new.tree path line same (write ∷ before) stands) in
+        subst (AtEachMoment Stood) (sym (are ∙ append_assoc (looked (Compared (root ++ partition_file) partition_line) intact) effect (write ∷ [])))
+        (look (root ++ partition_file) partition_line intact (effect ++ write ∷ []) behind (look path line same (write ∷ []) stands (inr stands, inl was.stands)))
 
     cpus : (g : Group) (ids : Ids) (r : Result (Unit {0}) KernelFault) (path line : List ℕ) → WritesCpus old g ids r new
         → AreAskedAndLooked (Written (root ++ (folder old.tree g ++ cpus_file)) (list_line ids)) (looks_behind partition root (Compared path line)) r these
         → AtEachMoment Stood these
-    cpus g ids (Ok value) path line wrote are =
+    cpus g ids (Ok value) path line wrote (same, intact, are) =
         let write : Asked = done (Written (root ++ (folder old.tree g ++ cpus_file)) (list_line ids)) in
         let stands : StandsFor root memory (with_cpus old.tree g ids) (write ∷ before) =
         writes_stand.cpus root memory old.tree g ids before (plain_names_apart old.tree was.well.tree was.own was.plain) (placed_free old g wrote.0) was.stands in
-        looks partition path line write (subst (λ (t : TreeState). StandsFor root memory t (write ∷ before)) (sym (ap (λ (k : KernelState). k.tree) wrote.1)) stands) are
-    cpus g ids (Err Failed) path line wrote are = one _ are
+        looks partition path line same intact write (subst (λ (t : TreeState). StandsFor root memory t (write ∷ before)) (sym (ap (λ (k : KernelState). k.tree) wrote.1)) stands) are
+    cpus g ids (Err Failed) path line wrote are = failed (Written (root ++ (folder old.tree g ++ cpus_file)) (list_line ids)) are
     cpus g ids (Err fault) path line wrote are = none are
 
     -- a group that is made, or is not
@@ -104,15 +123,20 @@ module _ (root : List ℕ) (memory : Ids) (partition : Bool) (old new : KernelSt
       folder_there : make_refusal old parent name ≡ None → list_any is_slash name ≡ false → StandsFor root memory old.tree (done made ∷ done controls ∷ before)
       folder_there free plain = unmade root memory old.tree parent name (done controls ∷ before) (none_has free plain) passed
 
-      makes : (r : Result Group (OrMemory KernelFault)) → MakesGroup old parent name r new → AreAsked controls made gone r these → IsNamed name r → AtEachMoment Stood these
+      makes : (r : Result Group (OrMemory KernelFault)) → MakesGroup old parent name r new → AreAsked name controls made gone r these → IsNamed name r → AtEachMoment Stood these
       makes (Ok g) h are named = of_these (done made ∷ done controls ∷ []) are (λ all. (inr all, (inl passed, inl was.stands)))
       makes (Err Memory) h (inl are) named =
           of_these (done gone ∷ done made ∷ done controls ∷ []) are (λ all. (inr all, (inl (folder_there h.0 named.no_slash), (inl passed, inl was.stands))))
       makes (Err Memory) h (inr are) named =
-          of_these (refused gone ∷ done made ∷ done controls ∷ []) are (λ all. (inr all, (inl (folder_there h.0 named.no_slash), (inl passed, inl was.stands))))
-      makes (Err (Fault Failed)) h (inl are) named = of_these (refused made ∷ done controls ∷ []) are (λ all. (inr all, (inl passed, inl was.stands)))
-      makes (Err (Fault Failed)) h (inr (inl are)) named = one (refused controls) are
-      makes (Err (Fault Failed)) h (inr (inr are)) named = none are
+          of_these (refusal gone ++ done made ∷ done controls ∷ []) are
+          (λ all. (inr all, (inl (writes_stand.refused root memory old.tree gone (done made ∷ done controls ∷ before) (folder_there h.0 named.no_slash)),
+          (inl (folder_there h.0 named.no_slash), (inl passed, inl was.stands)))))
+      makes (Err (Fault Failed)) h (inl are) named =
+          of_these (refusal made ++ done controls ∷ []) are
+          (λ all. (inr all, (inl (writes_stand.refused root memory old.tree made (done controls ∷ before) passed), (inl passed, inl was.stands))))
+      makes (Err (Fault Failed)) h (inr (inl are)) named = failed controls are
+      makes (Err (Fault Failed)) h (inr (inr (inl are))) named = one (done (Told name NoRoom)) are
+      makes (Err (Fault Failed)) h (inr (inr (inr are))) named = one (done (Told name NoName)) are
       makes (Err (Fault fault)) h are named = none are
 
     each : (event : Event) → Happens old event new → AsksFor root memory partition old event new these → AtEachMoment Stood these

@@ -5,7 +5,7 @@ ghost use Rattle.tools.specs.StartLemmas.{beginning_of};
 
 use crate::calls;
 use anyhow::{Context, Result, bail};
-use cgroup_tree::{GroupFiles, MirroredKernel, Room, Sited};
+use cgroup_tree::{GroupFiles, LineFault, MirroredKernel, Room, Sited, Unasked};
 use cpu_set::IdSet;
 use kernel_model::ModelKernel;
 use std::io;
@@ -54,13 +54,22 @@ impl<R: Print> GroupFiles for FusedFiles<'_, R> {
         self.ask("write", path, text)
     }
 
-    fn tell_lack(&self, name: &str) {
-        let _ = println!(self.rt; "lacked {name}");
-    }
-
-    fn compare_line(&mut self, path: &str, line: &[u8]) {
+    fn compare_line(&mut self, path: &str, line: &[u8]) -> Result<(), LineFault> {
         let line = str::from_utf8(line).unwrap_or("");
         let _ = println!(self.rt; "looked {path} {line:?}");
+        Ok(())
+    }
+
+    fn tell_refusal(&mut self, path: &str, _text: &[u8], _error: &io::Error) {
+        let _ = println!(self.rt; "told {path}");
+    }
+
+    fn tell_line(&mut self, path: &str, _line: &[u8], _fault: &LineFault) {
+        let _ = println!(self.rt; "told {path}");
+    }
+
+    fn tell_unasked(&mut self, name: &str, _why: Unasked) {
+        let _ = println!(self.rt; "told {name}");
     }
 }
 
