@@ -1,3 +1,4 @@
 pub mod WalkLemmas
 pub mod FinishLemmas
 pub mod CpuWalks
+pub mod MarkLemmas

@@ -20,6 +20,7 @@ mod giving;
 mod handover;
 pub mod laws;
 mod overview;
+mod ring_marks;
 mod rings;
 mod scan;
 mod taking;
