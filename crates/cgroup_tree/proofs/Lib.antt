@@ -1,1 +1,2 @@
 pub mod PartitionLemmas
+pub mod Recording
