@@ -286,7 +286,7 @@ def folders_again() -> None:
 # What is decided where nothing is otherwise.
 
 
-def resting(**settings: object) -> Tuple[Ledger, Look]:
+def resting(**settings: Any) -> Tuple[Ledger, Look]:
     """What is known behind a look at which nothing was to be done, of one that is pinned and one that waits; and that look."""
     p, w = container("p", State.PINNED, 1, cpus=cpus("2")), container("w", State.WAITING, cpus=cpus("0-1,3-7"))
     ledger = ledger_of(p, w, **settings)
