@@ -21,7 +21,7 @@ from numarun_host.decide import decide
 from numarun_host.kept_files import GroupFiles
 from numarun_host.ledger import Kind, Ledger, Pause, Problem, State, Topic
 from numarun_host.runtimes import Watch
-from numarun_host.seen import Double, Folder, Group, Look, Missing, NoGroup, Online, Told
+from numarun_host.seen import Double, Folder, Group, Look, Missing, NoGroup, Online
 from numarun_host.sources import Folders
 
 LONG_AGO = 1_600_000_000  # seconds: a folder that is as it was then has not changed for a while
