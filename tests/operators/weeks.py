@@ -27,6 +27,9 @@ ALIVE = 40            # of them at once, by and large
 WARM = 1              # hours after which nothing grows any more
 MACHINE = {"nodes": ["0-15", "16-31"], "distances": [[10, 21], [21, 10]], "reserved": "0"}
 PAGES = os.sysconf("SC_PAGE_SIZE")
+# The other files of a group. No kernel keeps the list of those in effect, so it is none, and is compared with nothing.
+OTHERS = (("cpuset.cpus.effective", "?\n"), ("cpu.max", "max 100000\n"), ("cgroup.events", "populated 1\nfrozen 0\n"))
+FILES = 5  # that a look reads of a group
 
 
 @dataclass(frozen=True)
@@ -39,7 +42,8 @@ class Sample:
     agent_kib: int
     program_kib: int
     files: int     # in the agent's folder
-    opened: int
+    opened: int    # but for those of groups
+    kept: int      # those of groups
     known: int     # entries of all that the agent keeps from look to look
     lines: int     # of the log, in this hour
 
@@ -83,6 +87,8 @@ class Play:
         config = config_of(section_of(1 + way % 3 if way < 12 else 40 if way == 12 else "90" if way == 13 else 0))
         text = json.dumps(config) if way != 14 else "{"
         self.tree.make_group(name)
+        for file, has in OTHERS:
+            written(self.tree.at("root/numarun", name, file), has)
         os.mkdir(self.tree.at("new"))
         written(self.tree.at("new/config.json"), text)
         os.rename(self.tree.at("new"), self.tree.at("g", name))
@@ -119,11 +125,13 @@ class Play:
         keepers = (ledger, self.agent.eyes, self.agent.eyes.source, self.agent.eyes.names, self.agent.eyes.groups, self.agent.hands)
         known = sum(len(part) for keeper in keepers for part in vars(keeper).values() if isinstance(part, (dict, list, set, frozenset)))
         files = sum(len(names) for _, _, names in os.walk(self.tree.at("work")))
-        return Sample(number, came, len(self.alive), resident(os.getpid()), resident(run.process.pid), files, len(os.listdir("/proc/self/fd")),
-                      known, lines)
+        groups = self.agent.eyes.groups
+        kept = sum(len(group.files) for group in groups.files.kept.values()) if groups else 0
+        return Sample(number, came, len(self.alive), resident(os.getpid()), resident(run.process.pid), files, len(os.listdir("/proc/self/fd")) - kept,
+                      kept, known, lines)
 
     def end(self) -> None:
-        self.agent.hands.close()
+        self.agent.close()
 
 
 def resident(pid: int) -> int:
@@ -136,7 +144,8 @@ def grown(samples: Sequence[Sample]) -> List[str]:
     first, last = samples[:WARM], samples[-1]
     bounds = {"agent_kib": 2048, "program_kib": 512, "files": 4 * ALIVE, "opened": 2, "known": 12 * ALIVE, "lines": 1500}
     found = [(part, max(getattr(sample, part) for sample in first), getattr(last, part)) for part in bounds]
-    return [f"{part}: {before} in the first hours, and {now}" for part, before, now in found if now > before + bounds[part]]
+    grew = [f"{part}: {before} in the first hours, and {now}" for part, before, now in found if now > before + bounds[part]]
+    return grew + [f"{sample.kept} files of groups are open, of {sample.alive} containers" for sample in samples if sample.kept > FILES * sample.alive]
 
 
 def played(folder: str, hours: int, seed: int) -> List[Sample]:
