@@ -6,10 +6,11 @@ from __future__ import annotations
 import dataclasses
 from typing import Dict, Mapping, Optional
 
-from decided import FOUR, QUOTA, as_given, asks, config_of, container, cpus, done, ledger_of, said, sighting
+from decided import FOUR, QUOTA, as_given, asks, config_of, container, cpus, done, ledger_of, looked, said, sighting
+from parts import asking, found, groups_of, one, trial_of
 from trial import case, check
-from numarun_host import configs, placing, sightings, slices
-from numarun_host.commands import Taken, Write
+from numarun_host import configs, newcomers, placing, room, sightings, slices
+from numarun_host.commands import Taken, Tell, Write
 from numarun_host.configs import Demand, Pin
 from numarun_host.cpus import Cpus, print_list
 from numarun_host.ledger import Kind, State, Topic
@@ -91,8 +92,8 @@ def who_waits() -> None:
     turn = Turn(ledger, Look(0.0))
     for state, home, expected in ((State.WAITING, None, "0"), (State.WAITING, cpus("2"), "-"), (State.PINNED, None, "-"), (State.SHARED, None, "-")):
         turn.spare = cpus("8-9")  # as it was before others ended
-        one = dataclasses.replace(container("w", state, 2, home=home), seen=sighting("/t/w", config))
-        check(f"{state.value}, {home}", print_list(configs.nodes_named(placing.demand_with_home(turn, one).config)), expected)
+        waiting = dataclasses.replace(container("w", state, 2, home=home), seen=sighting("/t/w", config))
+        check(f"{state.value}, {home}", print_list(configs.nodes_named(placing.demand_with_home(turn, waiting).config)), expected)
     turn.there["w"] = sighting("/t/w", asks(4))
     check("as it is seen by now", placing.demand_with_home(turn, dataclasses.replace(container("w", State.WAITING, 2), seen=sighting("/t/w", config))).count, 4)
     lacking = Demand({"linux": {"resources": {"memory": {"limit": 1 << 30}}}}, 2, lacks_memory=True)
@@ -155,13 +156,78 @@ def seen_anew() -> None:
     """One is seen anew where what is known of it is otherwise, though it is found the same: others chose its nodes, if it was given other ones."""
     ledger = ledger_of(members=FOUR)
     given = dataclasses.replace(as_given(container("a", State.PINNED, 2, cpus=cpus("4-5"))), config=asks(2))
-    found = dataclasses.replace(given, group=dataclasses.replace(given.group, nodes=cpus("1")))
+    alike = dataclasses.replace(given, group=dataclasses.replace(given.group, nodes=cpus("1")))
     for nodes, expected in (("1", None), ("2", cpus("1"))):
         ledger.put(container("a", State.PINNED, 2, cpus=cpus("4-5"), nodes=cpus(nodes)))
-        check(f"given {nodes}", sightings.sighting_of(ledger, "a", found).nodes, expected)
+        check(f"given {nodes}", sightings.sighting_of(ledger, "a", alike).nodes, expected)
     bare = ledger_of(root=None)
     told = Found(Told("/b", "/f"), ("other",), asks(2), Group("/t/a", 1))
-    one = container("a", State.PINNED, 2, cpus=cpus("4-5"))
+    held = container("a", State.PINNED, 2, cpus=cpus("4-5"))
     seen = sightings.sighting_of(bare, "a", told)
-    check("without a tree no group is written anew", sightings.is_same(bare, one, seen), True)
-    check("with one it requests nothing any more", sightings.is_same(ledger_of(), one, seen), False)
+    check("without a tree no group is written anew", sightings.is_same(bare, held, seen), True)
+    check("with one it requests nothing any more", sightings.is_same(ledger_of(), held, seen), False)
+
+
+# Newcomers, and who wants more.
+
+
+@case
+def the_system_begins_elsewhere() -> None:
+    """What a group of the system requests keeps nobody off the pool of a trial, on which one begins that asks for no CPUs."""
+    new, slice_group = found("n", config_of()), Group("/t/s.slice", 7, cpus("4-5"))
+    answers = {"rebalance": ["plan total 0", "pool 0-7", "end"], "sets n": ["cpus 0-7 effective 0-7 mems 0 effective 0"]}
+    commands, _ = looked(ledger_of(), answers, told={"n": new}, groups={**groups_of(new), "/t/s.slice": slice_group}, slices=("s.slice",))
+    check("the whole pool", [line for line in trial_of(commands, False) if " n " in line], ["adopt n 0-7"])
+
+
+@case
+def homes_without_a_trial() -> None:
+    """Where a trial has no plan, each newcomer's home is chosen as it is told of: one that is refused keeps no others off."""
+    come = {name: found(name, asks(4), age=age) for age, name in enumerate("ab")}
+    answers = {"rebalance": ["refused E90 Busy"], "create a": ["refused E58 Missing root"], "sets b": ["cpus 0-1 effective 0-1 mems 0 effective 0"]}
+    commands, _ = looked(ledger_of(members=FOUR), answers, told=come, groups=groups_of(*come.values()))
+    told = [print_list(configs.nodes_named(command.config)) for command in commands if isinstance(command, Tell) and command.name == "b" and not command.trial]
+    check("the nearest one", told, ["1"])
+
+
+@case
+def homes_beside_those_told() -> None:
+    """What one has that was told of at this look is not free for the next one's home, and nothing else is kept off for it."""
+    come = {"c": found("c", asks(2), age=0), "a": found("a", asks(4), "6-9", age=1), "b": found("b", asks(4), age=2)}
+    answers = {"rebalance": ["refused E90 Busy"], **{f"sets {name}": [f"cpus {has} effective {has} mems 0 effective 0"] for name, has in (("c", "0-1"), ("a", "6-9"), ("b", "0-1"))}}
+    commands, _ = looked(ledger_of(members=FOUR), answers, told=come, groups=groups_of(*come.values()))
+    told = {command.name: print_list(configs.nodes_named(command.config)) for command in commands if isinstance(command, Tell) and not command.trial}
+    check("homes", told, {"c": "0", "a": "1-2", "b": "3"})
+
+
+@case
+def blocks_while_it_is_there() -> None:
+    """Who could not be told of stands in the way of a plan while it is there, also where nobody can say whether it has a process."""
+    held, groups = sighting("/t/x", cpus=cpus("4")), {"/t/x": Group("/t/x", 1, cpus("4"))}
+    turn = Turn(ledger_of(), Look(10.0, groups=groups))
+    turn.ledger.blocking = {"x": held}
+    check("not there", newcomers.still_blocking(turn), {})
+    turn.there = {"x": held}
+    check("there", newcomers.still_blocking(turn), {"x": held})
+
+
+@case
+def unsure_once_is_unsure() -> None:
+    """Once one was refused that was to begin on CPUs of a plan, it stays unsure what it has, whoever is refused behind it."""
+    for before in (False, True):
+        turn = Turn(ledger_of(), Look(10.0))
+        turn.unsure = before
+        done(newcomers.take_up(turn, "n", sighting("/t/n", asks(1)), None), {"create": ["refused E50 KernelFault"], "adopt": ["refused E50 KernelFault"]})
+        check(f"unsure before: {before}", turn.unsure, before)
+
+
+@case
+def nothing_to_give() -> None:
+    """One for which there is a plan with just what it is given is told nothing: it keeps that until there is room."""
+    held = one("a", State.PINNED, cpus=cpus("1-2"), **asking(2, wanted=3))
+    ledger = ledger_of(held)
+    trial = room.Trial(Turn(ledger, Look(10.0)), {"a"})
+    steps = room.try_demand(trial, held, held.wanted, held.given)
+    commands, _ = done(steps, {"rebalance": ["plan total 0", "hold a 1-2", "pool 0,3-7", "end"]})
+    check("told", [command for command in commands if isinstance(command, Tell) and not command.trial], [])
+    check("said", said(commands), ["keeps a: that would move it: it stays at 2 CPUs until there is room"])

@@ -374,6 +374,9 @@ def no_rest() -> None:
         check(name, (after.rest, bool([command for command in commands if isinstance(command, Say)])), (None, name.startswith(("a plan", "one"))))
     commands, after = done(decide(ledger, dataclasses.replace(look, wrong=("line 1",))))
     check("a line that is said", (said(commands), after.rest), (["refused: line 1"], None))
+    for _ in range(2):
+        commands, after = done(decide(after, dataclasses.replace(look, wrong=("line 1",))))
+        check("and each time that it is there", (said(commands), after.rest), (["refused: line 1"], None))
     _, after = done(decide(after, look))
     check("and what is the same behind it", after.rest, look)
     check("what was known before the look is as it was", ledger.rest, look)
