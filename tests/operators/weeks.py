@@ -27,6 +27,7 @@ ALIVE = 40            # of them at once, by and large
 WARM = 1              # hours after which nothing grows any more
 MACHINE = {"nodes": ["0-15", "16-31"], "distances": [[10, 21], [21, 10]], "reserved": "0"}
 PAGES = os.sysconf("SC_PAGE_SIZE")
+MEMORY = "/dev/shm"   # where a week is played, since a disk waits at each file that is put in the place of another one, as /run does not
 # The other files of a group. No kernel keeps the list of those in effect, so it is none, and is compared with nothing.
 OTHERS = (("cpuset.cpus.effective", "?\n"), ("cpu.max", "max 100000\n"), ("cgroup.events", "populated 1\nfrozen 0\n"))
 FILES = 5  # that a look reads of a group
@@ -169,6 +170,6 @@ def some_hours() -> None:
 if __name__ == "__main__":
     asked = [int(word) for word in sys.argv[1:]]
     hours, seed = asked + [168, 1][len(asked):]
-    with tempfile.TemporaryDirectory() as kept:
+    with tempfile.TemporaryDirectory(dir=MEMORY if os.access(MEMORY, os.W_OK) else None) as kept:
         check("what has grown", grown(played(os.path.join(kept, "week"), hours, seed)), [])
     sys.exit(1 if failed else 0)
