@@ -20,7 +20,7 @@ import urllib.request
 from typing import Any, Dict, List, Mapping, Sequence, Tuple
 
 from trial import EXAMPLES, text_of, written
-from weeks import HOUR, Play
+from weeks import HOUR, MEMORY, Play
 
 BEGINS = 1_790_000_000  # when the hours begin, in seconds since 1970
 MINUTE = 60.0
@@ -115,7 +115,7 @@ def main(words: Sequence[str]) -> int:
     out, hours, seed = words[0], int(words[1]) if len(words) > 1 else 6, int(words[2]) if len(words) > 2 else 1
     with open(os.path.join(EXAMPLES, "dashboards", "grafana.json"), encoding="utf-8") as file:
         board = json.load(file)
-    with tempfile.TemporaryDirectory(prefix="dashboard-") as folder:
+    with tempfile.TemporaryDirectory(prefix="dashboard-", dir=MEMORY if os.access(MEMORY, os.W_OK) else None) as folder:
         told, minutes = played(os.path.join(folder, "play"), hours, seed)
         written(f"{folder}/none.yml", "")
         subprocess.run(["promtool", "tsdb", "create-blocks-from", "openmetrics", written(f"{folder}/figures", told), f"{folder}/data"], check=True, stdout=subprocess.DEVNULL)
