@@ -18,8 +18,8 @@ SEEN, LOOKS, LARGE = "/tmp/seen", "/tmp/looks", "/tmp/large.json"
 CPUS, MOVES = os.sysconf("SC_NPROCESSORS_CONF"), 60
 AT_ONCE = min(CPUS - 2, 60)
 ROUNDS = -(-MOVES // AT_ONCE)
-LOOKS_A_SECOND = 2000  # of all together, for an emulated machine has few processors of the host, however many are its own
-PAUSE = AT_ONCE * 1000000 // LOOKS_A_SECOND  # microseconds between two looks of one
+# Microseconds between two looks of one: each look of sixty takes from the few processors of the host on which sixty emulated ones run.
+PAUSE = 2000 if AT_ONCE < MOVES else 100000
 
 
 class Watched:
