@@ -70,9 +70,10 @@ module _ (root : List ℕ) (memory : Ids) (partition : Bool) (old new : KernelSt
     look : (path line : List ℕ) (same : Bool) (calls : List Asked) → StandsFor root memory new.tree (calls ++ before) → AtEachMoment Stood calls
         → AtEachMoment Stood (looked (Compared path line) same ++ calls)
     look path line true calls stands each = (inr (compared root memory new.tree path line (calls ++ before) stands), each)
-    look path line false calls stands each =
-        (inr (refused_and_told root memory new.tree (Compared path line) (calls ++ before) stands),
-        (inr (writes_stand.refused root memory new.tree (Compared path line) (calls ++ before) stands), each))
+    look path line false calls stands each = (
+      inr (refused_and_told root memory new.tree (Compared path line) (calls ++ before) stands),
+      (inr (writes_stand.refused root memory new.tree (Compared path line) (calls ++ before) stands), each),
+    )
 
     -- a write of CPUs, and the looks behind it
     looks : (partition : Bool) (path line : List ℕ) (same intact : Bool) (write : Asked) → StandsFor root memory new.tree (write ∷ before)
@@ -129,8 +130,13 @@ module _ (root : List ℕ) (memory : Ids) (partition : Bool) (old new : KernelSt
           of_these (done gone ∷ done made ∷ done controls ∷ []) are (λ all. (inr all, (inl (folder_there h.0 named.no_slash), (inl passed, inl was.stands))))
       makes (Err Memory) h (inr are) named =
           of_these (refusal gone ++ done made ∷ done controls ∷ []) are
-          (λ all. (inr all, (inl (writes_stand.refused root memory old.tree gone (done made ∷ done controls ∷ before) (folder_there h.0 named.no_slash)),
-          (inl (folder_there h.0 named.no_slash), (inl passed, inl was.stands)))))
+          (λ all. (
+            inr all,
+            (
+              inl (writes_stand.refused root memory old.tree gone (done made ∷ done controls ∷ before) (folder_there h.0 named.no_slash)),
+              (inl (folder_there h.0 named.no_slash), (inl passed, inl was.stands)),
+            ),
+          ))
       makes (Err (Fault Failed)) h (inl are) named =
           of_these (refusal made ++ done controls ∷ []) are
           (λ all. (inr all, (inl (writes_stand.refused root memory old.tree made (done controls ∷ before) passed), (inl passed, inl was.stands))))
