@@ -7,13 +7,16 @@ from __future__ import annotations
 import os
 from typing import Optional, Sequence
 
-from .cgroups import LIMIT, limit_in, read_file
+from .cgroups import LIMIT, limit_in, read_file, set_in
 from .commands import Taken
+from .cpus import print_list
 from .links import CPUS_IN_EFFECT, NODES_IN_EFFECT, Links
 from .partition_files import give_back as give_partition_back
 from .partition_files import read_before
 from .slices import FILES
 from .taken import Whole, read_record, write_file, write_limit
+
+ONLINE = "/sys/devices/system/cpu/online"
 
 
 def release(root: str, work: str, slices: Sequence[str]) -> int:
@@ -51,7 +54,7 @@ def is_kept(work: str) -> bool:
 
 def give_back(path: str, taken: Taken, whole: Whole) -> Optional[str]:
     """Lets a group request what it did before, or all; why it can't, or nothing."""
-    for file, text, everything in zip(FILES, (taken.cpus, taken.nodes), whole):
+    for file, text, everything in zip(FILES, (taken.cpus, taken.nodes), (left_by_partitions(path, whole[0]), whole[1])):
         if text is None:
             continue
         why = write_file(os.path.join(path, file), text)
@@ -59,6 +62,14 @@ def give_back(path: str, taken: Taken, whole: Whole) -> Optional[str]:
         if why:
             return why
     return give_limit_back(os.path.join(path, LIMIT), taken)
+
+
+def left_by_partitions(path: str, everything: Optional[str]) -> Optional[str]:
+    """These CPUs but for those that run and that the group above has not in effect: a partition beside has them, which ends if anybody
+    requests one."""
+    above, online = (set_in(read_file(file)) for file in (f"{os.path.dirname(path)}/{CPUS_IN_EFFECT}", ONLINE))
+    cpus = set_in(everything)
+    return everything if above is None or online is None or cpus is None else print_list(cpus - (online - above))
 
 
 def give_limit_back(path: str, taken: Taken) -> Optional[str]:

@@ -14,7 +14,7 @@ import sys
 HERE = os.path.dirname(os.path.abspath(__file__))
 TOP = os.path.dirname(os.path.dirname(HERE))
 MODULES = """__future__ _strptime argparse bisect collections contextlib copy ctypes dataclasses datetime encodings.ascii encodings.latin_1
-encodings.utf_8 enum errno fcntl gettext importlib itertools json linecache locale logging math os pathlib random re select selectors
+encodings.utf_8 enum errno fcntl gettext importlib itertools json linecache locale logging math os pathlib random re resource select selectors
 shlex shutil signal site socket subprocess sys tarfile tempfile textwrap threading time tokenize traceback typing zlib""".split()
 AT_A_DESK = "html pyexpat xml.etree.ElementTree".split()
 PACKAGES = "bash dash coreutils sed grep mawk findutils gzip tar dpkg diffutils hwloc-nox hwloc".split()
