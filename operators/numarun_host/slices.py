@@ -86,10 +86,11 @@ def below(turn: Turn, name: str, ways: Dict[str, str], containers: FrozenSet[str
 
 
 def give_back(turn: Turn, path: str, whole: bool = False) -> Steps[Optional[str]]:
-    """Lets a group request what it did before, or all; why it can't, or nothing."""
-    machine = turn.ledger.settings.machine
+    """Lets a group request what it did before, or all but the CPUs of a partition beside, which ends if anybody requests them; why it can't, or
+    nothing."""
+    cpus = turn.ledger.settings.machine.present - turn.look.online.apart
     taken = turn.ledger.taken.get(path) or Taken(0, "", "", True)
-    for file, text, everything in zip(FILES, (taken.cpus, taken.nodes), (print_list(machine.present), print_list(turn.ledger.memory))):
+    for file, text, everything in zip(FILES, (taken.cpus, taken.nodes), (print_list(cpus), print_list(turn.ledger.memory))):
         if text is None:
             continue
         text = "" if whole else text

@@ -491,6 +491,9 @@ def given_back() -> None:
     ledger.taken = {}
     commands = tried_again(slices.give_back(turn, "/t/a"))
     check("an empty list is not taken", [(one.file, one.text) for one in commands if isinstance(one, Write)], [("cpuset.cpus", ""), ("cpuset.cpus", "0-15")])
+    beside = Turn(ledger, Look(0.0, online=Online(cpus("0-6,8-15"), apart=cpus("7"))))
+    commands = tried_again(slices.give_back(beside, "/t/a"))
+    check("not the CPU of a partition", [one.text for one in commands if isinstance(one, Write)], ["", "0-6,8-15"])
     ledger.taken = {"/t/a": Taken(1, "1-2", "0", True)}
     commands = tried_again(slices.give_back(turn, "/t/a"))
     check("another one", [(one.file, one.text) for one in commands if isinstance(one, Write)], [("cpuset.cpus", "1-2")])

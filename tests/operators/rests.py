@@ -9,7 +9,7 @@ import shutil
 from typing import Any, Dict
 
 from sites import Open, Site
-from numarun_host import slices
+from numarun_host import release, slices
 from numarun_host.cpus import Cpus, print_list, read_list
 from trial import case, check, refuses, told
 
@@ -136,6 +136,25 @@ def ids() -> None:
         found = slices.id_of(group)
         check(f"an id for {group}", (found[:len(expected)], len(found) <= 64), (expected, True))
     check("two groups", slices.id_of("a/b@c") != slices.id_of("a/b_c"), True)
+
+
+@case
+def beside_a_partition() -> None:
+    """Who gets all CPUs back gets none that runs and that the group above has not in effect, for a partition has it; 7 is off."""
+    site, online = Site(), release.ONLINE
+    site.make_group(None, group="system.slice")
+    group, above = site.at("root/system.slice"), site.at("root/cpuset.cpus.effective")
+    for path, text in ((site.at("online"), "0-6"), (above, "0-4,6")):
+        with open(path, "w") as file:
+            file.write(text + "\n")
+    release.ONLINE = site.at("online")
+    try:
+        check("all but the partition's", release.left_by_partitions(group, "0-7"), "0-4,6-7")
+        check("no list", release.left_by_partitions(group, None), None)
+        os.remove(above)
+        check("nothing is known", release.left_by_partitions(group, "0-7"), "0-7")
+    finally:
+        release.ONLINE = online
 
 
 @case
