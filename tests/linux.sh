@@ -85,12 +85,14 @@ for part in "${parts[@]}"; do
     fi
 done
 (cd "$root" && find . | cpio -o -H newc --quiet | gzip -1) >"$work/initrd.gz"
-nodes=() each=$((cpus / 4)) threads=1 processor=max turns=multi
-[ "$cpus" -le 8 ] || turns=single # one thread for all CPUs: of many threads those that wait for another take the host's processors from it
+nodes=() each=$((cpus / 4)) threads=1 processor=max turns=multi clock=''
+if [ "$cpus" -gt 8 ]; then
+    turns=single # one thread for all CPUs: of many threads those that wait for another take the host's processors from it
+    clock="tsc=reliable lpj=10000000" # else each CPU is measured when it comes, for seconds, and each look at the clock is one at a device
+fi
 if has cores; then
     threads=2 processor=max,vendor=GenuineIntel # an AMD one tells of its threads by a feature that is not emulated
 fi
-clock="tsc=reliable lpj=10000000" # else each CPU is measured when it comes, for seconds, and each look at the clock is one at a device
 for node in 0 1 2 3; do
     range=$((each * node))-$((each * (node + 1) - 1))
     nodes+=(-object "memory-backend-ram,id=m$node,size=${megabytes}M" -numa "node,nodeid=$node,memdev=m$node,cpus=$range")

@@ -69,7 +69,7 @@ agent.end()
 done = watched.release()
 assert done.returncode == 0, (done, watched.lines()[-20:])
 assert limit(POD) == "300000 100000", (limit(POD), done.stdout)
-assert read(f"{ROOT}/{APART}/cpuset.cpus.partition") == "root"
+assert read(f"{ROOT}/{APART}/cpuset.cpus.partition") == "root", (read(f"{ROOT}/{APART}/cpuset.cpus.partition"), done.stdout)
 for pid in [*(pid for pid, _ in pinned.values()), *others]:
     assert watched.runs_on(pid, LEFT), (tree.allowed(pid), done.stdout)
 assert "Traceback" not in read(watched.OUT), read(watched.OUT)[-2000:]
