@@ -79,6 +79,6 @@ takes 'a read of what the last of 1,000 nested groups has in effect, with its li
 takes 'a look for a name that none of 1,000 groups has, with its line' siblings 100 1100 8000
 takes 'a hand-over of 1,024 containers, 2,048 writes' hand-overs 0 1 560000000
 takes 'a step of a direct one that takes a target' steps 100 900 4000000
-takes 'a direct hand-over of 1,024 containers in a ring, 1,025 writes' moved 0 1 90000000
+takes 'a direct hand-over of 1,024 containers in a ring, 1,025 writes' moved 0 1 30000000
 takes 'a direct hand-over of 1,024 containers that come' first 0 1 6000000
 exit "$failed"
