@@ -72,11 +72,9 @@ daemons=$(printf "$work/unpacked/%s " $daemons)
 
 root=$work/root
 gcc -O2 -shared -fPIC -o "$work/stop.so" "$top/tests/linux/stop.c"
-for name in sleeper looker; do
-    gcc -O2 -static -o "$work/$name" "$top/tests/linux/$name.c"
-done
+gcc -O2 -static -o "$work/sleeper" "$top/tests/linux/sleeper.c"
 # shellcheck disable=SC2046,SC2086 # they are words
-python3 -B "$top/tests/linux/image.py" "$root" $desk "$program" "$work/stop.so" "$work/sleeper" "$work/looker" $(command -v $inside) ${packages:+$daemons}
+python3 -B "$top/tests/linux/image.py" "$root" $desk "$program" "$work/stop.so" "$work/sleeper" $(command -v $inside) ${packages:+$daemons}
 for part in "${parts[@]}"; do
     if [ "${part%%/*}" = calls ]; then
         . "$top/benches/build-tools.sh"
@@ -85,12 +83,10 @@ for part in "${parts[@]}"; do
     fi
 done
 (cd "$root" && find . | cpio -o -H newc --quiet | gzip -1) >"$work/initrd.gz"
-nodes=() each=$((cpus / 4)) threads=1 processor=max turns=multi
-[ "$cpus" -le 8 ] || turns=single # one thread for all CPUs: of many threads those that wait for another take the host's processors from it
+nodes=() each=$((cpus / 4)) threads=1 processor=max
 if has cores; then
     threads=2 processor=max,vendor=GenuineIntel # an AMD one tells of its threads by a feature that is not emulated
 fi
-clock="tsc=reliable lpj=10000000" # else each CPU is measured when it comes, for seconds, and each look at the clock is one at a device
 for node in 0 1 2 3; do
     range=$((each * node))-$((each * (node + 1) - 1))
     nodes+=(-object "memory-backend-ram,id=m$node,size=${megabytes}M" -numa "node,nodeid=$node,memdev=m$node,cpus=$range")
@@ -108,9 +104,9 @@ emulate() {
     mkdir "$work/$number"
     echo "$seed $*" >"$work/$number/parts"
     { cat "$work/initrd.gz"; cd "$work/$number" && echo parts | cpio -o -H newc --quiet | gzip -1; } >"$work/initrd-$number.gz"
-    timeout "${LIMIT:-900}" qemu-system-x86_64 -M q35 -cpu $processor -accel tcg,thread=$turns -m $((4 * megabytes)) -smp "$cpus,sockets=4,cores=$((each / threads)),threads=$threads" \
+    timeout "${LIMIT:-900}" qemu-system-x86_64 -M q35 -cpu $processor -accel tcg,thread=multi -m $((4 * megabytes)) -smp "$cpus,sockets=4,cores=$((each / threads)),threads=$threads" \
         "${nodes[@]}" -nodefaults -display none -serial stdio -no-reboot -kernel "$kernel" -initrd "$work/initrd-$number.gz" \
-        -append "console=ttyS0 quiet panic=-1 loglevel=1 mitigations=off no_timer_check $clock rdinit=/init" </dev/null 2>&1 |
+        -append "console=ttyS0 quiet panic=-1 loglevel=1 mitigations=off no_timer_check rdinit=/init" </dev/null 2>&1 |
         sed -u 's/\r$//' | tee "$work/out-$number" | grep -a --line-buffered '^linux: ' || true
 }
 

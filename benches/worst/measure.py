@@ -98,19 +98,6 @@ def products(rows: int, each: int = 4, more: int = 0, falling: bool = False) -> 
     return write
 
 
-def all_needed(each: int) -> WriteText:
-    """Rows that ask for so many CPUs each and may have half of all, by chance, and a last one that asks for the rest and for one less than
-    `each` besides, of the first CPUs. So all rows together are a shortage, and none of them can be left out, which only trying tells."""
-    def write(out: TextIO, kind: str) -> None:
-        chance = random.Random(1)
-        rows, cpus = 4096 // each - 2, range(4096)
-        rest = 4096 + each - 1 - each * rows
-        out.write(FIRST[kind])
-        out.writelines(f"row r{k} {each} 10:{listed(chance.sample(cpus, 2048))}\n" for k in range(rows))
-        out.write(f"row z {rest} 10:0-{rest}\n" + LAST[kind])
-    return write
-
-
 def far_apart(rows: int) -> WriteText:
     """Each row asks for 4 of 4 * `rows` CPUs: CPU c is of class c modulo `rows`, and row k has the CPUs of class g at the weight
     (k + 1) * (g + 1), each as an offer of its own, in an order by chance."""
@@ -229,7 +216,6 @@ INPUTS: dict[str, Union[Text, Run]] = {
     "`solve`, 1,023 such rows of 1, and a last one that takes the rest: 50 MB": Text("solve", products(1024, 1)),
     "the same, 512 rows on 2,048 CPUs in all": Text("solve", products(512, 1)),
     "the same as the last but one, offers by falling weights, and one CPU too many asked for": Text("solve", products(1024, 1, 1, True)),
-    "`solve`, 1,022 rows of 4 that may have half of 4,096 CPUs each, by chance, and a last one: 3 CPUs too many asked for": Text("solve", all_needed(4)),
     "`solve`, 1,024 rows of 4, CPUs of one weight in each row by fours, offers by chance: 50 MB": Text("solve", far_apart(1024)),
     "the same, 512 rows on 2,048 CPUs, offers by chance": Text("solve", far_apart(512)),
     "`solve`, 64 MiB of rows with ids in random order": Text("solve", rows_in("chance")),

@@ -40,7 +40,6 @@ from .cpus import NO_CPUS, Cpus, print_list, read_list
 from .decide import answer_to_hook, at_the_end, decide, say_pool_end
 from .doing import POOL_SECONDS, Ending, Hands, PoolCommand
 from .hooks import STATUS, Hooks
-from .kept_files import allow_files
 from .ledger import Ledger, Settings, is_undone
 from .links import CPUS_IN_EFFECT, Links, locked
 from .log import logger
@@ -131,11 +130,6 @@ class Agent:
             self.hands.carry_out(say_pool_end(self.ledger, command, fault))
         for line in at_the_end(self.ledger):
             self.hands.do(line)
-
-    def close(self) -> None:
-        self.hands.close()
-        if self.eyes.groups:
-            self.eyes.groups.files.close_all()
 
 
 def parser_of_words() -> Parser:
@@ -351,12 +345,11 @@ def main() -> int:
         return release(words.cgroup, words.work, [group for group in words.groups if group != EACH])
     machine = Machine(words.machine)
     check_program(words.program)
-    allow_files()
     ending = Ending()
     with tempfile.TemporaryDirectory(prefix="numarun-") as folder:
         agent = made(words, machine, words.work if words.cgroup else folder, ending)
         try:
             agent.work(words.pause, words.rounds)
         finally:
-            agent.close()
+            agent.hands.close()
     return 1 if is_undone(agent.ledger, ending.is_told) else 0

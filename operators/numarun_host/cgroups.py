@@ -8,15 +8,36 @@ from typing import Dict, FrozenSet, Optional, Set, Tuple, Union
 
 from .configs import Config, Limit, at, parse_text
 from .cpus import NO_CPUS, Cpus, read_list
-from .kept_files import GroupFiles, Raw, files_to_keep, read_raw
 from .script import Refused, read_text
 from .seen import Group, NoGroup
 
 CONFIG_BYTES = 1 << 20
+FILE_BYTES = 1 << 16
 LIMIT = "cpu.max"
 EACH = "/"
 READ = ("cpuset.cpus", "cpuset.mems", "cpuset.cpus.effective", LIMIT, "cgroup.events")
 ANON = ("inactive_anon", "active_anon", "unevictable")  # what of a group's memory is no page cache that can be freed; shared memory is in it
+PIECE = 400  # bytes into which most files of a group fit
+FLAGS = os.O_RDONLY | os.O_CLOEXEC | os.O_NONBLOCK
+Raw = Tuple[Optional[bytes], ...]
+
+
+def read_raw(path: str) -> Optional[bytes]:
+    """The bytes of a file of a group, or nothing."""
+    try:
+        file = os.open(path, FLAGS)
+    except (OSError, ValueError):
+        return None
+    try:
+        found = piece = os.read(file, PIECE)
+        while len(piece) == PIECE and len(found) < FILE_BYTES:
+            piece = os.read(file, PIECE)
+            found += piece
+        return found
+    except OSError:
+        return None
+    finally:
+        os.close(file)
 
 
 def text_in(found: Optional[bytes]) -> Optional[str]:
@@ -69,19 +90,16 @@ class Groups:
 
     def __init__(self, root: str, top: Optional[str] = None) -> None:
         self.root, self.top = root, top or root  # where the containers are, and from where runtimes tell paths
-        self.files = GroupFiles(READ, files_to_keep())
         self.last: Dict[str, Tuple[int, Raw, Group]] = {}
         self.looked_at: Set[str] = set()
 
     def look_at(self, path: str) -> Union[Group, NoGroup]:
         self.looked_at.add(path)
         try:
-            there = os.stat(path)
+            inode = os.stat(path).st_ino
         except (OSError, ValueError):
-            self.files.close(path)
             return NoGroup(f"{path}: no such group")
-        inode = there.st_ino
-        raw = self.files.read(path, inode, there.st_mtime_ns)
+        raw: Raw = tuple(map(read_raw, [f"{path}/{file}" for file in READ]))
         before = self.last.get(path)
         if before and before[0] == inode and before[1] == raw:
             return before[2]
@@ -95,9 +113,7 @@ class Groups:
 
     def end_look(self) -> None:
         """Forgets those that were not looked at."""
-        for path in (self.last.keys() | self.files.kept.keys()) - self.looked_at:
-            self.last.pop(path, None)
-            self.files.close(path)
+        self.last = {path: found for path, found in self.last.items() if path in self.looked_at}
         self.looked_at = set()
 
     def effective_nodes(self) -> Optional[Cpus]:

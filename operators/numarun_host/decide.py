@@ -26,35 +26,10 @@ FIGURES_PAUSE = 5.0  # seconds
 
 
 def decide(before: Ledger, look: Look) -> Steps[Ledger]:
-    """A look that finds just what the last one found, behind which nothing was to be done, is no work: it would be decided as that was."""
     ledger = before.copy()
-    count_seconds(ledger, look.now)
-    if look != before.rest:
-        did = yield from tell_whether(work_through(ledger, look))
-        ledger.rest = None if did or ledger.pauses or not ledger.stands_as(before) else look
-    if ledger.settings.figures:
-        yield from leave_figures(ledger, look.now)
-    if ledger.has_tree and is_news(before, ledger):
-        yield from leave_for_others(ledger, LeaveState(status_of(ledger)), "state")
-    return ledger
-
-
-def tell_whether(steps: Steps[None]) -> Steps[bool]:
-    """Does these steps, and tells whether there was one."""
-    did = False
-    try:
-        command = next(steps)
-        while True:
-            did = True
-            command = steps.send((yield command))
-    except StopIteration:
-        return did
-
-
-def work_through(ledger: Ledger, look: Look) -> Steps[None]:
-    """All that is decided of containers, groups and CPUs by what a look found."""
     ledger.titles = look.titles
     turn = Turn(ledger, look)
+    count_seconds(ledger, look.now)
     yield from say_what_was_told(turn)
     reserved = reserved_of(ledger.settings.machine, look.online.running, ledger.reserved)
     if not ledger.started or ledger.spent or reserved != ledger.reserved:
@@ -73,6 +48,9 @@ def work_through(ledger: Ledger, look: Look) -> Steps[None]:
     if not ledger.ending:
         yield from settle_the_rest(turn)
     yield from leave(turn)
+    if ledger.has_tree and is_news(before, ledger):
+        yield from leave_for_others(ledger, LeaveState(status_of(ledger)), "state")
+    return ledger
 
 
 def settle_the_rest(turn: Turn) -> Steps[None]:
@@ -93,7 +71,7 @@ def settle_the_rest(turn: Turn) -> Steps[None]:
 
 
 def leave(turn: Turn) -> Steps[None]:
-    """Keeps what was taken."""
+    """Keeps what was taken, and leaves the figures."""
     ledger = turn.ledger
     keep_lists(turn)
     held = {container.seen.group.path for container in ledger.containers.values()}
@@ -105,6 +83,8 @@ def leave(turn: Turn) -> Steps[None]:
     ledger.before = {name: before for name, before in ledger.before.items() if name in turn.there or name in turn.look.told}
     if turn.unsaved:
         yield SaveTaken(ledger.all_taken)
+    if ledger.settings.figures:
+        yield from leave_figures(ledger, turn.now)
 
 
 def leave_figures(ledger: Ledger, now: float) -> Steps[None]:

@@ -14,7 +14,7 @@ from .script import Refused
 
 PATIENCE = 120  # seconds after which nobody waits any more
 LINE = 256      # bytes of what is told
-MOST = 256      # hooks at once, so that enough of the 512 files are left that no group's are
+MOST = 256      # hooks at once, so that enough of the 1,024 files are left that a process may have open
 SECONDS = 1.0   # that one has to take its answer
 STATUS = "?status"  # what is told by one who asks what the agent knows
 AnswerOf = Callable[[str], Optional[Mapping[str, object]]]

@@ -2,6 +2,7 @@
 
 from __future__ import annotations
 
+import copy
 import dataclasses
 from dataclasses import dataclass, field
 from enum import Enum
@@ -12,7 +13,7 @@ from .configs import Config, Demand, Limit, Pin, stays
 from .cpus import NO_CPUS, Cpus
 from .machine import Machine
 from .partition import Layout
-from .seen import Found, Group, Look, Stamp, Told
+from .seen import Found, Group, Stamp, Told
 
 MOST_PAUSES = 64  # times the first one
 
@@ -237,18 +238,13 @@ class Ledger:
     looked: Optional[float] = None  # when it looked last
     certificate: str = ""           # the file of the last one that was kept
     left: Optional[Tuple[float, Dict[str, float]]] = None  # the figures that were left last, and when
-    rest: Optional[Look] = None  # the last look, if nothing was to be done behind it, so that nothing is as long as looks find the same
 
     def copy(self) -> Ledger:
         """Another one, of which each part can be changed by itself."""
-        other = object.__new__(Ledger)
-        parts = {**vars(self), **{name: getattr(self, name).copy() for name in CHANGED}}
-        vars(other).update(parts)
+        other = copy.copy(self)
+        for name in CHANGED:
+            setattr(other, name, getattr(self, name).copy())
         return other
-
-    def stands_as(self, before: Ledger) -> bool:
-        """Whether it knows what it did before, but for what time alone changes."""
-        return all(getattr(self, name) == getattr(before, name) for name in STANDING)
 
     @property
     def all_taken(self) -> Dict[str, Taken]:
@@ -309,8 +305,6 @@ class Ledger:
 
 # The parts that are changed, and not replaced: those that begin as an empty one each.
 CHANGED = tuple(part.name for part in dataclasses.fields(Ledger) if part.default_factory is not dataclasses.MISSING)
-# Those by which something is decided: all but the settings, which stay, the clock, what it adds up, and what is worked out from a look alone.
-STANDING = tuple(part.name for part in dataclasses.fields(Ledger) if part.name not in ("settings", "looked", "times", "left", "rest", "sighted"))
 
 
 def report(ledger: Ledger, topic: Topic, of: str, kind: Kind, text: str) -> Steps[None]:

@@ -2,7 +2,6 @@
 
 from __future__ import annotations
 
-import dataclasses
 import os
 import stat
 from typing import Dict, FrozenSet, Mapping, Optional, Set, Tuple, Union
@@ -21,11 +20,6 @@ from .seen import Found, Group, Look, Missing, NoGroup, Online, Stamp, Told
 from .sources import Source
 
 LIST_BYTES = 1 << 16
-
-
-def is_stopped(told: Told, group: Group) -> bool:
-    """Whether the process of its runtime's state has ended, and there is none in its group."""
-    return group.populated is False and told.folder is not None and has_ended(told.folder)
 
 
 class Eyes:
@@ -49,9 +43,8 @@ class Eyes:
         except Refused as why:
             fault = str(why)
         told = {name: self.container(ledger, name, container) for name, container in self.source.told.items()}
-        for name in (self.configs.keys() | self.found.keys()) - told.keys():
-            self.configs.pop(name, None)
-            self.found.pop(name, None)
+        self.configs = {name: config for name, config in self.configs.items() if name in told}
+        self.found = {name: found for name, found in self.found.items() if name in told}
         slices = self.groups.named(self.settings.slices) if self.groups and self.settings.slices else ()
         below: Mapping[str, Tuple[str, ...]] = {}
         groups: Mapping[str, Union[Group, NoGroup]] = {}
@@ -74,9 +67,6 @@ class Eyes:
         except (OSError, ValueError):
             return Missing(told, f"{path}: can't be read")
         stamp: Stamp = (told, there.st_dev, there.st_ino, there.st_mtime_ns, there.st_size)
-        before, known = self.found.get(name), ledger.containers.get(name)
-        if before and known and before.stamp == stamp == known.seen.stamp and before.group.path == known.seen.group.path:
-            return self.container_again(name, before)
         if not stat.S_ISREG(there.st_mode):
             return Missing(told, f"{path}: no file")
         try:
@@ -89,24 +79,15 @@ class Eyes:
         group = self.groups.look_at(place) if self.groups else Group(place, 0)
         if isinstance(group, NoGroup):
             return Missing(told, group.why)
-        stopped = is_stopped(told, group)
+        stopped = group.populated is False and told.folder is not None and has_ended(told.folder)
+        before = self.found.get(name)
         if before and before.stamp == stamp and before.group is group and before.stopped == stopped:
             return before
         device = wish_of(config, NEAR)
         near = None if device is None else node_of_device(device, self.sysfs)
-        memory = memory_by_node(place) if self.counts_memory and known is None and memory_asked(config) else {}
+        memory = memory_by_node(place) if self.counts_memory and name not in ledger.containers and memory_asked(config) else {}
         found = self.found[name] = Found(told, stamp, config, group, there.st_mtime_ns, stopped, near, memory)
         return found
-
-    def container_again(self, name: str, before: Found) -> Union[Found, Missing]:
-        """The same of one that is known, whose config has not changed; where its group has not either it is the same object."""
-        group = self.groups.look_at(before.group.path) if self.groups else before.group
-        if isinstance(group, NoGroup):
-            return Missing(before.told, group.why)
-        stopped = group.populated is False and is_stopped(before.told, group)
-        if group is not before.group or stopped != before.stopped:
-            before = self.found[name] = dataclasses.replace(before, group=group, stopped=stopped)
-        return before
 
     def config(self, name: str, stamp: Stamp, path: str) -> Config:
         before = self.configs.get(name)

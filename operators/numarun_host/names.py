@@ -6,7 +6,7 @@ from __future__ import annotations
 import json
 import os
 import re
-from typing import Dict, Iterable, List, Mapping, Optional, Set, Tuple
+from typing import Dict, Iterable, List, Mapping, Optional, Tuple
 
 from .configs import at, parse_text
 from .script import Refused, read_text
@@ -34,17 +34,10 @@ class Names:
     def __init__(self, docker: str = DOCKER, podman: Iterable[str] = PODMAN) -> None:
         self.docker, self.podman = docker, tuple(podman)
         self.found: Dict[str, Optional[str]] = {}
-        self.asked: Set[str] = set()
-        self.last: Dict[str, str] = {}
 
     def titles(self, *several: Mapping[str, object]) -> Dict[str, str]:
         """What these are called that have long ids."""
-        asked = set[str]().union(*several)
-        if asked != self.asked:
-            self.asked, self.last = asked, self.titles_of({name for name in asked if is_long(name)})
-        return self.last
-
-    def titles_of(self, names: Set[str]) -> Dict[str, str]:
+        names = {name for told in several for name in told if is_long(name)}
         new = [name for name in names if name not in self.found]
         if new:
             self.found.update(self.look_up(new))

@@ -9,7 +9,7 @@ import select
 import subprocess
 import tempfile
 import time
-from typing import IO, Callable, Iterable, List, Optional, Sequence
+from typing import Callable, Iterable, List, Optional, Sequence
 
 from .notify import IN_THE_MIDST, notify
 from .script import BYTES, Refused
@@ -19,15 +19,6 @@ NODES_PATIENCE = 3600.0  # the same of a line by which the nodes of a group may 
 MAY_WRITE_NODES = ("create", "adopt", "update")
 PIECE = 1 << 16
 MANY_LINES = ("begin", "rebalance", "certificate", "list")  # commands whose answers end with `end`
-
-
-def is_ready(reader: IO[bytes], seconds: float, writer: Optional[IO[bytes]] = None) -> bool:
-    """Whether the one can be read, or the other written, within so many seconds. Its number may be beyond those that select(2) takes."""
-    waiter = select.poll()
-    waiter.register(reader, select.POLLIN)
-    if writer:
-        waiter.register(writer, select.POLLOUT)
-    return bool(waiter.poll(seconds * 1000))
 
 
 class Interrupted(Refused):
@@ -68,8 +59,8 @@ class Run:
             try:
                 text = text[os.write(self.stdin.fileno(), text):]
             except BlockingIOError:
-                self.await_one(until, "a line", writes=True)
-                if is_ready(self.stdout, 0):
+                self.await_one([self.stdout], [self.stdin], until, "a line")
+                if select.select([self.stdout], [], [], 0)[0]:
                     self.rest += os.read(self.stdout.fileno(), PIECE)
             except BrokenPipeError:
                 return
@@ -87,7 +78,7 @@ class Run:
     def line(self, asked: str) -> str:
         until = time.monotonic() + self.patience_for(asked)
         while b"\n" not in self.rest:
-            self.await_one(until, asked)
+            self.await_one([self.stdout], [], until, asked)
             piece = os.read(self.stdout.fileno(), PIECE)
             if not piece:
                 why = self.why()
@@ -96,8 +87,8 @@ class Run:
         line, self.rest = self.rest.split(b"\n", 1)
         return line.decode(errors="replace")
 
-    def await_one(self, until: float, asked: str, writes: bool = False) -> None:
-        """Waits until there is something to read, or, if it writes, that can be done, as long as an answer may take."""
+    def await_one(self, readers: Sequence[object], writers: Sequence[object], until: float, asked: str) -> None:
+        """Waits until one of these is ready, as long as an answer may take."""
         while True:
             ends = self.ends()
             left = min(until, ends if ends is not None else until) - time.monotonic()
@@ -106,7 +97,8 @@ class Run:
                 if ends is not None:
                     raise Interrupted(f"{self.program}: no answer to {asked!r} where it is to end")
                 raise Refused(f"{self.program}: no answer to {asked!r} in {self.patience_for(asked):g} s")
-            if is_ready(self.stdout, min(left, 0.5), self.stdin if writes else None):
+            ready, able, _ = select.select(readers, writers, [], min(left, 0.5))
+            if ready or able:
                 return
             if ends is None and self.patience_for(asked) > self.patience:
                 notify(IN_THE_MIDST)

@@ -115,16 +115,15 @@ class Double:
 @dataclass(frozen=True)
 class Look:
     """All that a look finds. `slices` are the groups of the system that are to be on the pool, below the root; `below` has those that are
-    right below one of these, and `busy` those that have processes of their own; `fault` is why what is told could not be read anew. Two looks
-    are the same that find the same; how much memory is free alone is nothing that has to be done."""
+    right below one of these, and `busy` those that have processes of their own; `fault` is why what is told could not be read anew."""
 
-    now: float = field(compare=False)
+    now: float
     told: Mapping[str, Union[Found, Missing]] = field(default_factory=dict)
     groups: Mapping[str, Union[Group, NoGroup]] = field(default_factory=dict)
     online: Online = Online(NO_CPUS)
     events: Tuple[str, ...] = ()
     wrong: Tuple[str, ...] = ()
-    free_memory: Mapping[int, Optional[int]] = field(default_factory=dict, compare=False)
+    free_memory: Mapping[int, Optional[int]] = field(default_factory=dict)
     slices: Tuple[str, ...] = ()
     below: Mapping[str, Tuple[str, ...]] = field(default_factory=dict)
     busy: FrozenSet[str] = frozenset()

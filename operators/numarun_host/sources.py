@@ -92,28 +92,22 @@ class Folders:
         self.watches, self.root = watches, root
         self.told: Dict[str, Told] = {}
         self.known: Dict[str, Tuple[Tuple[int, int], Entry]] = {}  # by its folder what was told of it, and when that had changed last
-        self.seen: List[Tuple[str, bool, Optional[List[Tuple[str, Optional[Entry]]]]]] = []  # in each folder at the last look
         self.folders: Tuple[Folder, ...] = ()
         self.doubles: Tuple[Double, ...] = ()
         self.wrong: List[str] = []
         self.events: List[str] = []
 
     def look(self) -> None:
-        seen = [(path, by_runtime, self.entries(path)) for path, by_runtime in self.paths()]
-        if seen != self.seen:
-            self.seen = seen
-            self.choose()
-
-    def choose(self) -> None:
-        """What is told by what was seen, where that is otherwise than it was."""
         found: Dict[str, List[Entry]] = {}
         folders = []
-        for path, by_runtime, entries in self.seen:
-            containers = [entry for _, entry in entries or () if entry]
-            stranger = next((name for name, entry in entries or () if not entry), "")
-            for entry in containers:
-                found.setdefault(entry.name, []).append(entry)
-            folders.append(Folder(path, entries is not None, len(entries or ()), len(containers), stranger, by_runtime))
+        for path, by_runtime in self.paths():
+            names, containers, stranger = self.names(path), 0, ""
+            for name in sorted(names or []):
+                entry = self.entry(f"{path}/{name}")
+                if entry:
+                    found.setdefault(entry.name, []).append(entry)
+                containers, stranger = containers + bool(entry), stranger or ("" if entry else name)
+            folders.append(Folder(path, names is not None, len(names or []), containers, stranger, by_runtime))
         self.folders = tuple(folders)
         chosen = {name: self.chosen(name, several) for name, several in found.items()}
         self.doubles = tuple(Double(name, entry.told.folder or "", chosen[name].told.folder or "")
@@ -121,11 +115,6 @@ class Folders:
         self.told = {name: entry.told for name, entry in chosen.items()}
         there = {entry.told.folder for several in found.values() for entry in several}
         self.known = {folder: known for folder, known in self.known.items() if folder in there}
-
-    def entries(self, path: str) -> Optional[List[Tuple[str, Optional[Entry]]]]:
-        """The entries of a folder by their names, with what is there of a container; nothing where there is no such folder."""
-        names = self.names(path)
-        return None if names is None else [(name, self.entry(f"{path}/{name}")) for name in sorted(names)]
 
     def paths(self) -> Iterator[Tuple[str, bool]]:
         """The folders that are watched now, and whether a runtime's name stands for them; the one in which they are where there is none."""

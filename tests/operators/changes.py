@@ -3,7 +3,6 @@ into a group, and a machine that is another one than the machine file's."""
 
 from __future__ import annotations
 
-import math
 import os
 import signal
 import time
@@ -334,7 +333,6 @@ def no_work() -> None:
     time.sleep(3)
     status, rest = agent.end()
     check("one line, and no plan", (status, len(of(lines, "failed")), of(rest, "plan", "done", "failed", "create")), (1, 1, []))
-    began = time.monotonic()
     agent = Open(site, "--textfile", site.at("figures"))
     agent.until("failed")
     end = time.monotonic() + 30
@@ -343,8 +341,7 @@ def no_work() -> None:
         time.sleep(0.1)
     agent.end()
     tries = int(figure(site, "numarun_refused_writes_total"))
-    most = 3 + int(math.log2((time.monotonic() - began) / 0.1 + 1))  # each pause is twice the one before, from 0.1 s on; at first there are two ways
-    check(f"{tries} tries in some seconds, of at most {most}, and plans", (2 <= tries <= most, figure(site, "numarun_plans_total")), (True, "1"))
+    check("tries in some seconds, and plans", (2 <= tries <= 8, figure(site, "numarun_plans_total")), (True, "1"))
 
 
 def figure(site: Site, name: str) -> str:

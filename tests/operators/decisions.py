@@ -1,8 +1,8 @@
 """Tries what the agent decides, without a process: whatever comes in whatever order over a plain model of the kernel, of a watched folder and
 of numarun (model.py). Containers come, go and come back, some with CPUs that their runtimes gave them, configs flip, break and can't be had,
 CPUs flap, writes fail, the folder is away, others write, all of it also between any two commands; and the agent is killed at any of them.
-`decisions.py [CASES [SEED [JOBS]]]` draws cases of all lengths without hypothesis, by so many processes side by side, a thousand by each seed from
-SEED on: a million is some two hours of one processor.
+`decisions.py [CASES [SEED [JOBS]]]` draws long cases alone, by so many processes side by side, a thousand by each seed from SEED on. Debian's pypy3
+runs them several times faster.
 
 - No container with a process is given up, and nobody's processes are ended.
 - Who requests CPUs without a reserved one has them for itself, after each write.
@@ -21,17 +21,16 @@ import subprocess
 import sys
 import tempfile
 from collections import Counter
-from typing import Callable, Optional
+from typing import Optional
 
 from trial import check, failed, long_case
 from model import RESERVED, Agent, Choices, Killed, World
 from numarun_host.cpus import NO_CPUS
-from numarun_host.ledger import CONTAINER_TOPICS, STANDING, State
+from numarun_host.ledger import CONTAINER_TOPICS, State
 from numarun_host.machine import Machine
 
 SHORT = int(os.environ.get("CASES", "3000"))  # drawn cases of each case below
 LONG = SHORT // 6
-THOUSAND = 1000  # cases of a seed, where they are drawn by hand
 SEED = 20261128
 LOOKS = 12  # in which who can be served is served: at the longest pause of what failed before one is tried again at the second look
 
@@ -59,21 +58,13 @@ def troubled(world: World) -> Agent:
     return agent
 
 
-def looks(agent: Agent, most: int) -> None:
-    """So many looks at which nothing happens, each behind all pauses, or as many as there are up to one at which there is nothing to be done: what
-    comes behind that is looked at once more, in place of all that would be the same."""
-    for _ in range(most):
-        agent.world.now += 100
-        agent.look(troubled=False)
-        if agent.rests:
-            return
-
-
 def settled(agent: Agent) -> None:
     """Behind all trouble: who can be served is served, and it is quiet then."""
     world = agent.world
     world.settle()
-    looks(agent, LOOKS)
+    for _ in range(LOOKS):
+        world.now += 100
+        agent.look(troubled=False)
     waiting = [name for name, container in agent.ledger.containers.items() if container.state is State.WAITING]
     taken = NO_CPUS.union(*(row.cpus for row in (agent.program.rows.values() if agent.program else ()) if row.count is not None))
     free = len(world.present - RESERVED - taken)
@@ -92,7 +83,7 @@ def settled(agent: Agent) -> None:
         if row.count is None and world.places[world.path(name)].cpus != world.present - taken:
             world.wrong.append(f"{name} is shared, and has {sorted(world.places[world.path(name)].cpus)}")
     before = {path: place.cpus for path, place in world.places.items()}
-    for _ in range(1 if agent.rests else 3):
+    for _ in range(3):
         world.now += 100
         agent.look(troubled=False)
         if agent.lines:
@@ -119,11 +110,8 @@ def refused(agent: Agent) -> None:
     world.come()
     for _ in range(6):
         world.now += 100
-        before = agent.ledger
         agent.look(troubled=False)
         said.update(agent.said)
-        if not agent.said and all(getattr(before, name) == getattr(agent.ledger, name) for name in STANDING if name not in ("pauses", "counts")):
-            break  # all pauses are over each time, so that nothing would be said again
     if any(count > 2 for count in said.values()):
         world.wrong.append(f"said again and again: {said.most_common(1)[0]}")
     world.settle()
@@ -134,7 +122,9 @@ def left(agent: Agent) -> None:
     world = agent.world
     world.bundles.clear()
     world.places.clear()
-    looks(agent, 4)
+    for _ in range(4):
+        world.now += 100
+        agent.look(troubled=False)
     ledger = agent.ledger
     kept = [ledger.containers, ledger.refused, ledger.blocking, ledger.taken, ledger.before, ledger.renewed, world.links, world.copies, world.taken,
             [key for key in ledger.problems if key[0] in CONTAINER_TOPICS], [key for key in ledger.pauses if key[0] == "container"], ledger.unsaid]
@@ -190,26 +180,15 @@ def by_debians_python(count: int, seed: int) -> str:
     return ran.stdout.decode()
 
 
-def first_fault(count: int, chance: random.Random, length: Callable[[], int]) -> str:
-    """The first fault of so many cases, whatever they are, with its case."""
+def long_days(count: int, seed: int) -> str:
+    """Longer cases than hypothesis makes, whatever they are; the first fault, with its case."""
+    chance = random.Random(seed)
     for _ in range(count):
-        drawn = bytes(chance.choices(range(256), k=length()))
+        drawn = bytes(chance.randrange(256) for _ in range(chance.choice((100, 300, 1000))))
         fault = fault_of(drawn)
         if fault:
             return f"{fault}: {drawn!r}"
     return ""
-
-
-def long_days(count: int, seed: int) -> str:
-    """Longer cases than hypothesis makes."""
-    chance = random.Random(seed)
-    return first_fault(count, chance, lambda: chance.choice((100, 300, 1000)))
-
-
-def days_of_all_lengths(seed: int) -> str:
-    """A thousand cases of up to 512 bytes, of which as many have one to two bytes as have 256 to 512."""
-    chance = random.Random(seed)
-    return first_fault(THOUSAND, chance, lambda: int(2 ** chance.uniform(0, 9)))
 
 
 @long_case
@@ -237,16 +216,23 @@ def other_long() -> None:
     check("long cases", long_days(LONG, SEED + 1), "")
 
 
+THOUSAND = 1000
+
+
+def thousand(seed: int) -> str:
+    return long_days(THOUSAND, seed)
+
+
 def by_hand(cases: int, seed: int, jobs: int) -> None:
-    """As many thousands of cases as these are, up to the first fault."""
+    """As many thousands of long cases as these are, up to the first fault."""
     seeds = range(seed, seed + -(-cases // THOUSAND))
     with multiprocessing.Pool(jobs) as pool:
-        for done, fault in enumerate(pool.imap(days_of_all_lengths, seeds), 1):
+        for done, fault in enumerate(pool.imap(thousand, seeds), 1):
             check(f"what is decided, seed {seeds[done - 1]}", fault, "")
             if failed:
                 return
             if done % 10 == 0 or done == len(seeds):
-                print(f"what is decided: {done * THOUSAND} cases as expected, seeds {seed} to {seeds[done - 1]}", flush=True)
+                print(f"what is decided: {done * THOUSAND} long cases as expected, seeds {seed} to {seeds[done - 1]}", flush=True)
 
 
 if __name__ == "__main__":

@@ -441,9 +441,7 @@ class Agent:
         self.lines = []
         self.said, self.set_back, self.denied, self.is_short, self.is_disturbed, self.has_plan = [], {}, set(), False, False, False
         is_first = self.ledger.pool is None and not self.ledger.renewed
-        found = self.world.look(self.ledger)
-        self.check_rest(found)
-        steps = decide(self.ledger, found)
+        steps = decide(self.ledger, self.world.look(self.ledger))
         try:
             command = next(steps)
             while True:
@@ -454,22 +452,6 @@ class Agent:
             self.ledger = end.value
         if is_first and self.ledger.pool is not None and not self.is_short and not self.is_disturbed:
             self.check_beginnings()
-
-    @property
-    def rests(self) -> bool:
-        """Whether there was nothing to be done at the last look, nor is at the next one, unless that finds something else."""
-        return self.ledger.rest is not None
-
-    def check_rest(self, found: Look) -> None:
-        """A look that is no work, since it finds what the last one did, would be none if it were worked through."""
-        if found == self.ledger.rest:
-            before = self.ledger.copy()
-            before.rest = None
-            try:
-                self.world.wrong.append(f"at rest, and to be done: {next(decide(before, found))}")
-            except StopIteration as end:
-                if not end.value.stands_as(self.ledger) or end.value.rest is None:
-                    self.world.wrong.append("at rest, and something is known that was not")
 
     def check_beginnings(self) -> None:
         """Behind the first plan of a run: who came, and has CPUs by it that nobody requested then, was never on the reserved CPUs alone."""
@@ -505,17 +487,15 @@ class Agent:
 
     def do(self, command: Command) -> Answer:
         world = self.world
-        if isinstance(command, (Ask, Tell)):
-            return self.answer(command)
-        if isinstance(command, Say):
-            self.hear(command)
-        elif isinstance(command, Start):
+        if isinstance(command, Start):
             self.program, self.offline = Program(world, True, command.reserved, command.offline), command.offline
         elif isinstance(command, OpenTrial):
             assert self.program
             self.trial = Program(world, False, self.program.reserved, self.offline)
         elif isinstance(command, CloseTrial):
             self.trial = None
+        elif isinstance(command, (Ask, Tell)):
+            return self.answer(command)
         elif isinstance(command, Link):
             world.links[command.name] = command.path
         elif isinstance(command, Unlink):
@@ -526,6 +506,8 @@ class Agent:
             world.taken = dict(command.groups)
         elif isinstance(command, Write):
             return Answer(why=None if world.write(command.path, read(command.text)) else f"{command.path}: Read-only file system")
+        elif isinstance(command, Say):
+            self.hear(command)
         return Answer()
 
     def answer(self, command: Union[Ask, Tell]) -> Answer:

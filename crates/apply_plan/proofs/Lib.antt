@@ -1,4 +1,3 @@
 pub mod WalkLemmas
 pub mod FinishLemmas
 pub mod CpuWalks
-pub mod MarkLemmas

@@ -38,7 +38,6 @@ pub mod DirectedLemmas
 pub mod Overviews
 pub mod OverviewLemmas
 pub mod NextTables
-pub mod RingMarks
 pub mod Turns
 pub mod NextLemmas
 pub mod FirstHolders

@@ -1,48 +1,43 @@
 //! The write that is due in a direct hand-over.
-ghost use Rattle.std.specs.Prelude.{◌≡◌, [], ◌∷◌, length, IsTrue};
+ghost use Rattle.std.specs.Prelude.{◌≡◌, [], ◌∷◌, length};
 ghost use Rattle.apply_plan.specs.Targets.{IsHandover, ArePlaced};
 ghost use Rattle.apply_plan.specs.DirectWords.{may_take, spare};
 ghost use Rattle.apply_plan.specs.Directed.{allowed_in};
 ghost use Rattle.apply_plan.specs.DirectWrite.{is_new, is_mover, is_grower, shares, shared_way, steps_aside, aside, must_yield};
 ghost use Rattle.apply_plan.specs.DirectWrite.{squeezed, first_due, gets, direct_write};
-ghost use Rattle.apply_plan.specs.RingMarks.{AreRings};
+ghost use Rattle.apply_plan.specs.NextTables.{AreNexts};
 ghost use Rattle.apply_plan.specs.Overviews.{IsOverview};
 ghost use Rattle.apply_plan.specs.Turns.{Guards};
 
 use crate::giving::{Giving, first_giving};
 use crate::overview::Overview;
-use crate::rings::{find_rings, rings_stand};
+use crate::rings::{find_nexts, rings_stand};
 use crate::scan::Write;
 use crate::taking::{Taking, any_has_all, first_taking};
 use crate::{Cores, Entry};
 use cpu_set::IdSet;
 use kernel_model::Kernel;
 
-/// Whether rings stand, where that matters to anybody: where some pinned container's target has all spare CPUs. If so
-/// the marks tell who stands in them.
+/// Whether rings stand, where that matters to anybody: where some pinned container's target has all spare CPUs.
 fn guards<K: Kernel>(
     kernel: &K,
     reserved: &IdSet,
     entries: &[Entry],
     left: &IdSet,
     nexts: &mut [usize],
-    marks: &mut [usize],
 ) -> bool
     requires placed { ArePlaced (K.state kernel.now) entries.now }
     requires valid { IsHandover (record { entries = entries.now; reserved = reserved.now }) }
     requires left { left.now ≡ spare (K.state kernel.now) reserved.now entries.now }
     requires room { length nexts.old ≡ length entries.now }
-    requires marked { length marks.old ≡ length entries.now }
     ensures guards { Guards (K.state kernel.now) reserved.now entries.now result }
-    ensures told { IsTrue result → AreRings (K.state kernel.now) reserved.now entries.now marks.new }
     ensures room { length nexts.new ≡ length entries.now }
-    ensures marked { length marks.new ≡ length entries.now }
 {
     if !any_has_all(entries, left) {
         return false;
     }
-    find_rings(kernel, reserved, entries, nexts, marks);
-    rings_stand(nexts, marks)
+    find_nexts(kernel, reserved, entries, nexts);
+    rings_stand(nexts)
 }
 
 /// The write by which one that lets go, or else a pinned one, takes its target at once, if one does.
@@ -114,12 +109,12 @@ fn way_of_pinned<K: Kernel, C: Cores>(
     entries: &[Entry],
     allowed: &[IdSet],
     seen: &Overview,
-    marks: &[usize],
+    nexts: &[usize],
 ) -> Option<Write>
     requires placed { ArePlaced (K.state kernel.now) entries.now }
     requires valid { IsHandover (record { entries = entries.now; reserved = reserved.now }) }
     requires seen { IsOverview (K.state kernel.now) reserved.now entries.now seen.now }
-    requires rings { AreRings (K.state kernel.now) reserved.now entries.now marks.now }
+    requires nexts { AreNexts (K.state kernel.now) reserved.now entries.now nexts.now }
     ensures { result ≡ first_due (gets (steps_aside (K.state kernel.now) reserved.now entries.now (allowed_in entries.now allowed.now) (C.least_of cores.now))
         (aside (K.state kernel.now) reserved.now entries.now (allowed_in entries.now allowed.now) (C.least_of cores.now)) entries.now
         ∷ gets (must_yield (K.state kernel.now) reserved.now entries.now) (squeezed (K.state kernel.now) reserved.now entries.now)
@@ -132,7 +127,7 @@ fn way_of_pinned<K: Kernel, C: Cores>(
         entries,
         allowed,
         seen,
-        marks,
+        nexts,
         Giving::Aside,
     ) {
         Some(write) => Some(write),
@@ -143,7 +138,7 @@ fn way_of_pinned<K: Kernel, C: Cores>(
             entries,
             allowed,
             seen,
-            marks,
+            nexts,
             Giving::Squeezed,
         ),
     }
@@ -157,12 +152,12 @@ fn way_given<K: Kernel, C: Cores>(
     entries: &[Entry],
     allowed: &[IdSet],
     seen: &Overview,
-    marks: &[usize],
+    nexts: &[usize],
 ) -> Option<Write>
     requires placed { ArePlaced (K.state kernel.now) entries.now }
     requires valid { IsHandover (record { entries = entries.now; reserved = reserved.now }) }
     requires seen { IsOverview (K.state kernel.now) reserved.now entries.now seen.now }
-    requires rings { AreRings (K.state kernel.now) reserved.now entries.now marks.now }
+    requires nexts { AreNexts (K.state kernel.now) reserved.now entries.now nexts.now }
     ensures { result ≡ first_due (gets (shares (K.state kernel.now) reserved.now entries.now)
         (shared_way (K.state kernel.now) reserved.now entries.now) entries.now
         ∷ gets (steps_aside (K.state kernel.now) reserved.now entries.now (allowed_in entries.now allowed.now) (C.least_of cores.now))
@@ -177,35 +172,12 @@ fn way_given<K: Kernel, C: Cores>(
         entries,
         allowed,
         seen,
-        marks,
+        nexts,
         Giving::Sharing,
     ) {
         Some(write) => Some(write),
-        None => way_of_pinned(kernel, cores, reserved, entries, allowed, seen, marks),
+        None => way_of_pinned(kernel, cores, reserved, entries, allowed, seen, nexts),
     }
-}
-
-/// Has it told who stands in a ring, where it was not told yet.
-fn know_rings<K: Kernel>(
-    kernel: &K,
-    reserved: &IdSet,
-    entries: &[Entry],
-    told: bool,
-    nexts: &mut [usize],
-    marks: &mut [usize],
-)
-    requires placed { ArePlaced (K.state kernel.now) entries.now }
-    requires valid { IsHandover (record { entries = entries.now; reserved = reserved.now }) }
-    requires room { length nexts.old ≡ length entries.now }
-    requires marked { length marks.old ≡ length entries.now }
-    requires told { IsTrue told → AreRings (K.state kernel.now) reserved.now entries.now marks.old }
-    ensures rings { AreRings (K.state kernel.now) reserved.now entries.now marks.new }
-    ensures room { length nexts.new ≡ length entries.now }
-{
-    if told {
-        return;
-    }
-    find_rings(kernel, reserved, entries, nexts, marks);
 }
 
 /// The write that is due where no target is taken at once: one gives way in a ring, or else one takes its target,
@@ -218,17 +190,13 @@ fn given_or_grown<K: Kernel, C: Cores>(
     allowed: &[IdSet],
     seen: &Overview,
     left: &IdSet,
-    rings: bool,
     nexts: &mut [usize],
-    marks: &mut [usize],
 ) -> Option<Write>
     requires placed { ArePlaced (K.state kernel.now) entries.now }
     requires valid { IsHandover (record { entries = entries.now; reserved = reserved.now }) }
     requires seen { IsOverview (K.state kernel.now) reserved.now entries.now seen.now }
     requires left { left.now ≡ spare (K.state kernel.now) reserved.now entries.now }
     requires room { length nexts.old ≡ length entries.now }
-    requires marked { length marks.old ≡ length entries.now }
-    requires told { IsTrue rings → AreRings (K.state kernel.now) reserved.now entries.now marks.old }
     ensures due { result ≡ first_due (gets (shares (K.state kernel.now) reserved.now entries.now)
         (shared_way (K.state kernel.now) reserved.now entries.now) entries.now
         ∷ gets (steps_aside (K.state kernel.now) reserved.now entries.now (allowed_in entries.now allowed.now) (C.least_of cores.now))
@@ -236,16 +204,15 @@ fn given_or_grown<K: Kernel, C: Cores>(
         ∷ gets (must_yield (K.state kernel.now) reserved.now entries.now) (squeezed (K.state kernel.now) reserved.now entries.now)
         entries.now ∷ gets (may_take (K.state kernel.now) reserved.now entries.now) (λ e. e.target) entries.now ∷ []) }
     ensures room { length nexts.new ≡ length entries.now }
-    ensures marked { length marks.new ≡ length entries.now }
 {
-    know_rings(kernel, reserved, entries, rings, nexts, marks);
-    match way_given(kernel, cores, reserved, entries, allowed, seen, marks) {
+    find_nexts(kernel, reserved, entries, nexts);
+    match way_given(kernel, cores, reserved, entries, allowed, seen, nexts) {
         Some(write) => Some(write),
         None => first_taking(kernel, reserved, entries, seen, left, false, Taking::Any),
     }
 }
 
-/// The write that is due. The tables are room for who waits for whom, and for who stands in a ring.
+/// The write that is due. The table is room for who waits for whom.
 pub fn direct_write<K: Kernel, C: Cores>(
     kernel: &K,
     cores: &C,
@@ -253,24 +220,21 @@ pub fn direct_write<K: Kernel, C: Cores>(
     entries: &[Entry],
     allowed: &[IdSet],
     nexts: &mut [usize],
-    marks: &mut [usize],
 ) -> Option<Write>
     requires placed { ArePlaced (K.state kernel.now) entries.now }
     requires valid { IsHandover (record { entries = entries.now; reserved = reserved.now }) }
     requires room { length nexts.old ≡ length entries.now }
-    requires marked { length marks.old ≡ length entries.now }
     ensures due { result ≡ direct_write (K.state kernel.now) reserved.now entries.now (allowed_in entries.now allowed.now)
         (C.least_of cores.now) }
     ensures room { length nexts.new ≡ length entries.now }
-    ensures marked { length marks.new ≡ length entries.now }
 {
     let seen = Overview::of(kernel, reserved, entries);
     let left = kernel.online().minus(reserved).minus(&seen.held);
-    let rings = guards(kernel, reserved, entries, &left, nexts, marks);
+    let rings = guards(kernel, reserved, entries, &left, nexts);
     match target_at_once(kernel, reserved, entries, &seen, &left, rings) {
         Some(write) => Some(write),
         None => given_or_grown(
-            kernel, cores, reserved, entries, allowed, &seen, &left, rings, nexts, marks,
+            kernel, cores, reserved, entries, allowed, &seen, &left, nexts,
         ),
     }
 }

@@ -28,8 +28,7 @@ use std::marker::Model;
 /// for a while, as a temporary.
 ///
 /// Of n entries a step looks at O(n). Where no target is free it notes who holds each CPU first, and looks up at the
-/// CPUs that each lacks whom it waits for. One walk from each to the next tells then of all who stands in a ring, in
-/// O(n) too.
+/// CPUs that each lacks whom it waits for; it follows each from one to the next, in n steps at most.
 #[derive(Debug, Drop)]
 pub struct DirectHandover {
     entries: Vec<Entry>,
@@ -37,8 +36,6 @@ pub struct DirectHandover {
     reserved: IdSet,
     /// Room for who waits for whom.
     nexts: Vec<usize>,
-    /// Room for who stands in a ring.
-    marks: Vec<usize>,
 }
 
 impl Model for DirectHandover {
@@ -57,7 +54,7 @@ impl Model for DirectHandover {
     ghost invariant = { λ h. IsDirected (record {
       targets = record { entries = h.entries.items; reserved = h.reserved };
       allowed = h.allowed.items;
-    }) × ((length h.nexts.items ≡ length h.entries.items) × (length h.marks.items ≡ length h.entries.items)) };
+    }) × (length h.nexts.items ≡ length h.entries.items) };
 }
 
 /// Makes the write that is due, or none.
@@ -68,7 +65,6 @@ fn make_direct<K: Kernel, C: Cores>(
     entries: &[Entry],
     allowed: &[IdSet],
     nexts: &mut [usize],
-    marks: &mut [usize],
 ) -> Result<Progress, KernelFault>
     requires placed { ArePlaced (K.state kernel.old) entries.now }
     requires valid { IsDirected (record {
@@ -76,7 +72,6 @@ fn make_direct<K: Kernel, C: Cores>(
       allowed = allowed.now;
     }) }
     requires room { length nexts.old ≡ length entries.now }
-    requires marked { length marks.old ≡ length entries.now }
     ensures step { StepsDirectly (record {
       targets = record { entries = entries.now; reserved = reserved.now };
       allowed = allowed.now;
@@ -87,10 +82,9 @@ fn make_direct<K: Kernel, C: Cores>(
       allowed = allowed.now;
     }) (C.least_of cores.now) }
     ensures room { length nexts.new ≡ length entries.now }
-    ensures marked { length marks.new ≡ length entries.now }
 {
     cores.gives_least();
-    let write = direct_write(&*kernel, cores, reserved, entries, allowed, nexts, marks);
+    let write = direct_write(&*kernel, cores, reserved, entries, allowed, nexts);
     make_if_any(kernel, write)?;
     Ok(if all_arrived(&*kernel, entries, 0) {
         Progress::Done
@@ -104,7 +98,7 @@ impl DirectHandover {
     /// is allowed, where it may run on its way.
     ///
     /// # Errors
-    /// An allocation failure: there is room for two numbers for each entry, so that no step allocates.
+    /// An allocation failure: there is room for one number for each entry, so that no step allocates.
     pub fn new(
         alloc: Global,
         entries: Vec<Entry>,
@@ -121,13 +115,11 @@ impl DirectHandover {
         }) }
     {
         let nexts = vec![in alloc; 0usize; entries.len()]?;
-        let marks = vec![in alloc; 0usize; entries.len()]?;
         Ok(DirectHandover {
             entries,
             allowed,
             reserved,
             nexts,
-            marks,
         })
     }
 
@@ -170,16 +162,7 @@ impl DirectHandover {
         let entries = self.entries.as_slice();
         let allowed = self.allowed.as_slice();
         let nexts = self.nexts.as_mut_slice();
-        let marks = self.marks.as_mut_slice();
-        make_direct(
-            kernel,
-            cores,
-            &self.reserved,
-            entries,
-            allowed,
-            nexts,
-            marks,
-        )
+        make_direct(kernel, cores, &self.reserved, entries, allowed, nexts)
     }
 
     /// Makes the write that is due and no other, or none if none is due, and tells whether more are to come.

@@ -7,12 +7,12 @@ ghost use Rattle.apply_plan.specs.DirectWords.{blocks, way, places};
 ghost use Rattle.apply_plan.specs.Directed.{allowed_in};
 ghost use Rattle.apply_plan.specs.DirectWrite.{must_yield, has_room, has_place, shared_way, aside, gets};
 ghost use Rattle.apply_plan.specs.Overviews.{IsOverview};
-ghost use Rattle.apply_plan.specs.RingMarks.{AreRings};
+ghost use Rattle.apply_plan.specs.NextTables.{AreNexts};
 ghost use Rattle.apply_plan.specs.Turns.{IsIn, gives_by, gets_by};
 ghost use Rattle.std.specs.FinSet as set;
 
 use crate::overview::Overview;
-use crate::ring_marks::is_in_ring;
+use crate::rings::stands_in_ring;
 use crate::scan::Write;
 use crate::{Cores, Entry};
 use cpu_set::IdSet;
@@ -92,7 +92,7 @@ fn must_yield<K: Kernel>(
     reserved: &IdSet,
     entries: &[Entry],
     seen: &Overview,
-    marks: &[usize],
+    nexts: &[usize],
     place: usize,
     entry: &Entry,
 ) -> bool
@@ -101,10 +101,10 @@ fn must_yield<K: Kernel>(
     requires within { place < length entries.now }
     requires at { entry.now ≡ get_or entries.now place entry.now }
     requires seen { IsOverview (K.state kernel.now) reserved.now entries.now seen.now }
-    requires rings { AreRings (K.state kernel.now) reserved.now entries.now marks.now }
+    requires nexts { AreNexts (K.state kernel.now) reserved.now entries.now nexts.now }
     ensures { result ≡ must_yield (K.state kernel.now) reserved.now entries.now entry.now }
 {
-    is_in_ring(marks, place) && blocks(kernel, reserved, entries, seen, entry)
+    blocks(kernel, reserved, entries, seen, entry) && stands_in_ring(nexts, place)
 }
 
 /// Whether a container has a place: whether one can be given of these, so where cores are given, the whole of a core.
@@ -147,7 +147,7 @@ fn gives<K: Kernel, C: Cores>(
     reserved: &IdSet,
     entries: &[Entry],
     seen: &Overview,
-    marks: &[usize],
+    nexts: &[usize],
     allowed: &IdSet,
     giving: Giving,
     place: usize,
@@ -158,20 +158,20 @@ fn gives<K: Kernel, C: Cores>(
     requires within { place < length entries.now }
     requires at { entry.now ≡ get_or entries.now place entry.now }
     requires seen { IsOverview (K.state kernel.now) reserved.now entries.now seen.now }
-    requires rings { AreRings (K.state kernel.now) reserved.now entries.now marks.now }
+    requires nexts { AreNexts (K.state kernel.now) reserved.now entries.now nexts.now }
     ensures { result ≡ gives_by (K.state kernel.now) reserved.now entries.now (λ _. allowed.now) (C.least_of cores.now) giving
         entry.now }
 {
     match giving {
         Giving::Sharing => {
-            !entry.pinned && must_yield(kernel, reserved, entries, seen, marks, place, entry)
+            !entry.pinned && must_yield(kernel, reserved, entries, seen, nexts, place, entry)
         }
         Giving::Aside => {
             entry.pinned
-                && must_yield(kernel, reserved, entries, seen, marks, place, entry)
+                && must_yield(kernel, reserved, entries, seen, nexts, place, entry)
                 && has_either(kernel, cores, reserved, entries, seen, allowed, entry)
         }
-        Giving::Squeezed => must_yield(kernel, reserved, entries, seen, marks, place, entry),
+        Giving::Squeezed => must_yield(kernel, reserved, entries, seen, nexts, place, entry),
     }
 }
 
@@ -265,13 +265,13 @@ pub fn first_giving<K: Kernel, C: Cores>(
     entries: &[Entry],
     allowed: &[IdSet],
     seen: &Overview,
-    marks: &[usize],
+    nexts: &[usize],
     giving: Giving,
 ) -> Option<Write>
     requires placed { ArePlaced (K.state kernel.now) entries.now }
     requires valid { IsHandover (record { entries = entries.now; reserved = reserved.now }) }
     requires seen { IsOverview (K.state kernel.now) reserved.now entries.now seen.now }
-    requires rings { AreRings (K.state kernel.now) reserved.now entries.now marks.now }
+    requires nexts { AreNexts (K.state kernel.now) reserved.now entries.now nexts.now }
     ensures { result ≡ gets (gives_by (K.state kernel.now) reserved.now entries.now (allowed_in entries.now allowed.now) (C.least_of cores.now) giving)
         (gets_by (K.state kernel.now) reserved.now entries.now (allowed_in entries.now allowed.now) (C.least_of cores.now) giving)
         entries.now }
@@ -279,7 +279,7 @@ pub fn first_giving<K: Kernel, C: Cores>(
     for (place, entry) in entries.iter().enumerate() {
         let own = allowed_at(allowed, place);
         if gives(
-            kernel, cores, reserved, entries, seen, marks, &own, giving, place, entry,
+            kernel, cores, reserved, entries, seen, nexts, &own, giving, place, entry,
         ) {
             return Some(Write {
                 group: entry.group,

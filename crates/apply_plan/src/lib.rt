@@ -20,7 +20,6 @@ mod giving;
 mod handover;
 pub mod laws;
 mod overview;
-mod ring_marks;
 mod rings;
 mod scan;
 mod taking;

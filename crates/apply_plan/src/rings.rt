@@ -4,14 +4,12 @@ ghost use Rattle.std.specs.FinSet as set;
 ghost use Rattle.cpu_set.specs.declared.TheConstants.{CPU_LIMIT};
 ghost use Rattle.cpuset_tree.specs.Groups.{has_group};
 ghost use Rattle.proctable.specs.Processes.{is_alive};
-ghost use Rattle.apply_plan.specs.Targets.{IsHandover, ArePlaced};
+ghost use Rattle.apply_plan.specs.Targets.{ArePlaced};
 ghost use Rattle.apply_plan.specs.FirstHolders.{AreFirsts, IsLeastPlace};
 ghost use Rattle.apply_plan.specs.Rings.{next};
 ghost use Rattle.apply_plan.specs.NextTables.{AreNexts, ring_at, any_ring};
-ghost use Rattle.apply_plan.specs.RingMarks.{TellRings, AreRings};
 
 use crate::Entry;
-use crate::ring_marks::{is_in_ring, mark_rings};
 use cpu_set::{CPU_LIMIT, IdSet};
 use kernel_model::{Kernel, requested};
 
@@ -146,7 +144,7 @@ fn next_by<K: Kernel>(
 /// Tells for each entry the place of the one that it waits for, or one past the end where it waits for none.
 ///
 /// Two walks over all entries note who holds each CPU first, and a third one looks the CPUs up that each lacks.
-fn find_nexts<K: Kernel>(kernel: &K, reserved: &IdSet, entries: &[Entry], nexts: &mut [usize])
+pub fn find_nexts<K: Kernel>(kernel: &K, reserved: &IdSet, entries: &[Entry], nexts: &mut [usize])
     requires placed { ArePlaced (K.state kernel.now) entries.now }
     requires room { length nexts.old ≡ length entries.now }
     ensures { AreNexts (K.state kernel.now) reserved.now entries.now nexts.new }
@@ -160,26 +158,6 @@ fn find_nexts<K: Kernel>(kernel: &K, reserved: &IdSet, entries: &[Entry], nexts:
             kernel, reserved, entries, &held, &holders, &owned, &owners, entry,
         );
     }
-}
-
-/// Tells of each entry whether it stands in a ring. One of the tables is room for who waits for whom.
-pub fn find_rings<K: Kernel>(
-    kernel: &K,
-    reserved: &IdSet,
-    entries: &[Entry],
-    nexts: &mut [usize],
-    marks: &mut [usize],
-)
-    requires placed { ArePlaced (K.state kernel.now) entries.now }
-    requires valid { IsHandover (record { entries = entries.now; reserved = reserved.now }) }
-    requires room { length nexts.old ≡ length entries.now }
-    requires marked { length marks.old ≡ length entries.now }
-    ensures nexts { AreNexts (K.state kernel.now) reserved.now entries.now nexts.new }
-    ensures marks { TellRings nexts.new marks.new }
-    ensures rings { AreRings (K.state kernel.now) reserved.now entries.now marks.new }
-{
-    find_nexts(kernel, reserved, entries, nexts);
-    mark_rings(nexts, marks);
 }
 
 /// Whether the one at a place waits for one that waits for one, and so on, up to one that waits for it.
@@ -200,13 +178,12 @@ pub fn stands_in_ring(nexts: &[usize], place: usize) -> bool
     false
 }
 
-/// Whether anybody stands in a ring, as the marks tell it.
-pub fn rings_stand(nexts: &[usize], marks: &[usize]) -> bool
-    requires { TellRings nexts.now marks.now }
+/// Whether anybody stands in a ring.
+pub fn rings_stand(nexts: &[usize]) -> bool
     ensures { result ≡ any_ring nexts.now (length nexts.now) }
 {
-    for place in 0..marks.len() {
-        if is_in_ring(marks, place) {
+    for place in 0..nexts.len() {
+        if stands_in_ring(nexts, place) {
             return true;
         }
     }

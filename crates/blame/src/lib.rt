@@ -1,7 +1,7 @@
-//! Shortages that name only those to blame: if any one member is left out, the other members have a plan.
+//! Shortages that name only those to blame: no member can be left out, since without it the others could be served.
 //!
 //! [`shrink`] makes such a shortage of another one. In the field's words it is an irreducible infeasible subset, here a
-//! minimal Hall violator. If any shortage will do, take that of `transport`; to have a problem solved call `solution`.
+//! minimal Hall violator.
 //!
 //! # Proved
 //!

@@ -37,7 +37,7 @@ pub fn shrink(alloc: Global, problem: &Problem, members: &[usize]) -> Result<Vec
     // The members ask together for more CPUs than they may have.
     ensures shortage { IfOk result (λ few. IsShortage problem.now few.items) }
 
-    // **Only those to blame are named**: if any one member is left out, the other members have a plan.
+    // **Only those to blame are named**: without any one of them there is a plan of the others.
     ensures needed { IfOk result (λ few. AreNeeded problem.now few.items) }
 {
     certificate::laws::what_is_within_the_limits();

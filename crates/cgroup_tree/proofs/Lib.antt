@@ -1,2 +1,1 @@
 pub mod PartitionLemmas
-pub mod Recording

@@ -98,7 +98,7 @@ impl<R: Files + AllocGlobal + Clock + Eprint> HostFiles<'_, R> {
 
     /// Says what it means that a folder has no file by which the groups below get controllers.
     fn note_plain(&self, path: &str, error: &io::Error) {
-        if !self.opened && error.kind() == ErrorKind::NotFound && path.ends_with(CONTROLS) {
+        if error.kind() == ErrorKind::NotFound && path.ends_with(CONTROLS) {
             let _ = eprintln!(self.rt;
                 "note: {}: each folder of a cgroup v2 tree has this file",
                 Shown(path)

@@ -1,4 +1,5 @@
 //! Calls of files, each told to the operator where it is refused.
+ghost use Rattle.std.specs.Prelude.{[], ◌∷◌};
 ghost use Rattle.cgroup_tree.specs.Asked.{Asks, Compared, Made, Removed, Unmade, Written};
 ghost use Rattle.cgroup_tree.specs.Mirrored.{Tries, looked};
 

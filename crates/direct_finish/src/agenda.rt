@@ -7,9 +7,6 @@ use cpu_set::{CPU_LIMIT, IdSet};
 use kernel_model::{Kernel, requested};
 use std::alloc::{AllocError, Global};
 
-/// No entry's place.
-const NOBODY: usize = usize::MAX;
-
 /// Whom to try next, and room to keep it, so that a hand-over allocates nothing.
 #[derive(Debug, Drop)]
 pub struct Agenda {
@@ -55,7 +52,7 @@ impl Agenda {
             tried_movers: 0,
             growers: Places::with_room(alloc, entries)?,
             tried_growers: 0,
-            asked_by: vec![in alloc; NOBODY; CPU_LIMIT as usize]?,
+            asked_by: vec![in alloc; usize::MAX; CPU_LIMIT as usize]?,
             freed: Places::with_room(alloc, entries)?,
             left: 0,
             blurred: false,
@@ -68,23 +65,8 @@ impl Agenda {
         self.left > 0
     }
 
-    /// Of those that were yet to let go nobody asks for a CPU any more.
-    fn forget_asked(&mut self, entries: &[Entry]) {
-        for turn in 0..entries.len() {
-            let Some(place) = self.movers.get(turn) else {
-                return;
-            };
-            if place < entries.len() {
-                self.ask(NOBODY, &entries[place].target);
-            }
-        }
-    }
-
     /// Nobody is to be tried.
-    ///
-    /// Who asked before may have given way since, and would take its target back though others need its CPUs as places.
-    pub(crate) fn clear(&mut self, entries: &[Entry]) {
-        self.forget_asked(entries);
+    pub(crate) fn clear(&mut self) {
         self.movers.clear();
         self.tried_movers = 0;
         self.growers.clear();

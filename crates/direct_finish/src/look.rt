@@ -96,7 +96,7 @@ pub fn look<K: Kernel>(
     };
     let mut arrived = true;
     let mut ended = false;
-    agenda.clear(entries);
+    agenda.clear();
     for (place, entry) in entries.iter().enumerate() {
         look_at(
             kernel,

@@ -1,6 +1,4 @@
-//! Hall's theorem for rows that ask for several CPUs each: laws over the definitions alone. Nothing here runs.
-//!
-//! To find a plan or a shortage use `transport`, and to make a shortage irreducible `blame`.
+//! Hall's theorem for rows that ask for several CPUs each: a law over the definitions alone. Nothing here runs.
 //!
 //! # Proved
 //!

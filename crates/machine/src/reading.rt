@@ -1,16 +1,13 @@
 //! From a machine file, with or without a SLIT beside it, to the machine.
 ghost use Rattle.std.specs.Prelude.{◌≡◌};
-ghost use Rattle.std.specs.Prelude.{option_map, map, IfOk};
+ghost use Rattle.std.specs.Prelude.{option_map, IfOk};
 ghost use Rattle.serde_json.specs.View.{view};
 ghost use Rattle.faults.specs.Answers.{Reports, Gives, ChecksFirst};
-ghost use Rattle.cpu_set.specs.Members.{InRange};
-ghost use Rattle.machine.specs.AreNodes.{AreNodes};
 ghost use Rattle.machine.specs.IsSound.{IsSound};
-ghost use Rattle.machine.specs.Listed.{cpus_named};
 ghost use Rattle.machine.specs.MachineOf.{said_by, value_fault, machine_of, text_fault};
 
 use crate::boot::{read_offline, read_reserved};
-use crate::cores::{Cores, firsts_of, read_cores, siblings_of};
+use crate::cores::{firsts_of, read_cores, siblings_of};
 use crate::fault::MachineFault;
 use crate::field::Field;
 use crate::index::places_of;
@@ -18,12 +15,11 @@ use crate::lookup::{array, find};
 use crate::node_sets::{sets_of, unite_nodes};
 use crate::table::read_distances;
 use crate::{MAX_BYTES, Machine};
-use cpu_set::IdSet;
 use faults::OrMemory;
 use json_text::parse;
 use serde_json::Value;
 use slit::Slit;
-use std::alloc::{AllocError, Global};
+use std::alloc::Global;
 
 impl Machine {
     /// Reads a machine file: a JSON object with the members `nodes`, `distances`, `reserved`, `offline` and
@@ -97,55 +93,15 @@ impl Machine {
         let offline = read_offline(find(value, Field::Offline), &present, &reserved)?;
         let cores = read_cores(find(value, Field::Cores), items, &present, &reserved)?;
         present.stays_below_the_limit();
-        let online = present.minus(&offline);
-        Ok(Machine::indexed(
-            alloc,
-            items,
-            &present,
-            distances.as_slice(),
-            &reserved,
-            &online,
-            &cores,
-        )?)
-    }
-
-    /// The machine of these parts, with what is worked out once.
-    fn indexed(
-        alloc: Global,
-        items: &[Value],
-        present: &IdSet,
-        distances: &[u8],
-        reserved: &IdSet,
-        online: &IdSet,
-        cores: &Cores,
-    ) -> Result<Machine, AllocError>
-        requires nodes { AreNodes (map view items.now) present.now }
-        requires in_range { InRange present.now }
-        requires sound { IsSound (record {
-          nodes = map cpus_named (map view items.now);
-          distances = distances.now;
-          reserved = reserved.now;
-          online = online.now;
-          lowest = cores.now.lowest;
-          threads = cores.now.threads;
-        }) }
-        ensures is { IfOk result (λ m. m ≡ record {
-          nodes = map cpus_named (map view items.now);
-          distances = distances.now;
-          reserved = reserved.now;
-          online = online.now;
-          lowest = cores.now.lowest;
-          threads = cores.now.threads;
-        }) }
-        ensures sound { IfOk result IsSound }
-    {
+        let nodes = sets_of(alloc, items)?;
+        let places = places_of(items);
         Ok(Machine {
-            nodes: sets_of(alloc, items)?,
-            distances: Vec::from_slice(alloc, distances)?,
-            reserved: *reserved,
-            online: *online,
-            present: *present,
-            places: Vec::from_slice(alloc, &places_of(items))?,
+            nodes,
+            distances: Vec::from_slice(alloc, distances.as_slice())?,
+            reserved,
+            online: present.minus(&offline),
+            present,
+            places: Vec::from_slice(alloc, &places)?,
             lowest: Vec::from_slice(alloc, &cores.lowest)?,
             siblings: Vec::from_slice(alloc, &siblings_of(&cores.lowest))?,
             firsts: firsts_of(&cores.lowest),

@@ -3,7 +3,7 @@ ghost use Rattle.std.specs.Prelude.{◌≡◌, ◌≤◌, ◌%◌, ◌*◌, leng
 ghost use Rattle.std.specs.Result.{result_err};
 ghost use Rattle.std.specs.Int.{from_le_bytes, w32, w64};
 ghost use Rattle.slit.specs.Describes.{table_of};
-ghost use Rattle.slit.specs.Header.{HasHeader, count_of, size_of};
+ghost use Rattle.slit.specs.Header.{HasHeader};
 ghost use Rattle.slit.specs.HeaderFault.{header_fault};
 ghost use Rattle.slit.specs.Table.{table};
 
@@ -13,7 +13,7 @@ use crate::{MAX_LOCALITIES, SlitFault};
 pub(crate) const ENTRIES_AT: usize = 44;
 
 /// The number of localities of a table whose header is in order, or the first fault of the header.
-#[tactic(auto, unfolding(crate::specs::HeaderFault::header_fault))]
+#[tactic(auto, unfolding(crate::specs::HeaderFault::header_fault, crate::specs::Header::count_of, crate::specs::Header::size_of))]
 pub(crate) fn check_header(bytes: &[u8]) -> Result<usize, SlitFault>
     ensures fault { header_fault bytes.now ≡ result_err result }
     ensures ok { IfOk result (HasHeader bytes.now) }
@@ -24,37 +24,19 @@ pub(crate) fn check_header(bytes: &[u8]) -> Result<usize, SlitFault>
     if !bytes.starts_with(b"SLIT") {
         return Err(SlitFault::BadSignature);
     }
-    let count = count_in(bytes);
+    let count = le_u64(&bytes[36..]);
     if count < 1 || count > MAX_LOCALITIES as u64 {
         return Err(SlitFault::BadCount);
     }
     let count = count as usize;
     let size = ENTRIES_AT + count * count;
-    if size_in(bytes) as usize != size || bytes.len() < size {
+    if le_u32(&bytes[4..]) as usize != size || bytes.len() < size {
         return Err(SlitFault::BadLength);
     }
     if sum_modulo(&bytes[..size]) != 0 {
         return Err(SlitFault::BadSum);
     }
     Ok(count)
-}
-
-/// The number of localities that the header tells.
-#[tactic(auto, unfolding(crate::specs::Header::count_of))]
-fn count_in(bytes: &[u8]) -> u64
-    requires { ENTRIES_AT ≤ length bytes.now }
-    ensures { result ≡ count_of bytes.now }
-{
-    le_u64(&bytes[36..])
-}
-
-/// The length of the table that the header tells.
-#[tactic(auto, unfolding(crate::specs::Header::size_of))]
-fn size_in(bytes: &[u8]) -> u32
-    requires { ENTRIES_AT ≤ length bytes.now }
-    ensures { result ≡ size_of bytes.now }
-{
-    le_u32(&bytes[4..])
 }
 
 /// The entries of a table whose header is in order.

@@ -24,7 +24,7 @@ pub fn decide(alloc: Global, problem: Problem, weights: Weights) -> Result<Certi
     // The certificate has these very rows, and says that the weights count what it was told. It is a plan that no plan
     // undercuts, proved by its values and prices. It is dealt as twins ought to be, with a price for each class of
     // twins whose price is not 0 and no others. Or it is a shortage, if there is no plan at all. **A shortage names
-    // only those to blame**: if any one member is left out, the other members have a plan.
+    // only those to blame**: without any one of its members there is a plan of the others.
     ensures decided { IfOk result (Decides problem weights) }
 
     // The certificate can be written as text.

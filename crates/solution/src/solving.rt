@@ -25,8 +25,8 @@ use std::alloc::{AllocError, Global};
 pub fn solve_text(alloc: Global, text: &[u8]) -> Result<Solution, OrMemory<VerdictFault>>
     // What it returns is a certificate of version 1 of the very rows that the text stands for. **No plan of the rows
     // costs less than its plan, or they have no plan.** The check accepts it. The text that is written of it stands for
-    // it in the grammar of certificates. Twins go to the rows in order. A shortage names only those to blame: if any
-    // one member is left out, the other members have a plan.
+    // it in the grammar of certificates. Twins go to the rows in order. A shortage names only those to blame: without
+    // any one of its members there is a plan of the others.
     ensures solved { IfOk result (Solves text.now) }
     // It returns one wherever the text stands for rows within the limits, unless an allocation fails.
     ensures complete { HasRows text.now true → IfErr result (λ e. e ≡ Memory) }

@@ -1,8 +1,8 @@
-"""Processes that look at the CPUs on which they may run in a loop, while containers move directly. All of them move home at once, each onto
-the CPU of the one before it, whose CPUs become free one after another, and back again, until there were sixty moves at least, and once more
-by one call: each sees its own CPUs and never the reserved one. They are six on a machine of 8 CPUs, and sixty on one of 62 or more. On 8 CPUs
-two that wait for each other move by way of a CPU that they may have, and where there is none the first of them, and nobody else, is on the
-reserved CPU. Between two steps each has looked."""
+"""Processes that look at their own `Cpus_allowed_list` in a loop, while containers move directly. All of them move home at once, each onto the
+CPU of the one before it, whose CPUs become free one after another, and back again, until there were sixty moves at least, and once more by
+one call: each sees its own CPUs and never the reserved one. They are six on a machine of 8 CPUs, and sixty on one of 62 or more. On 8 CPUs two that wait for each
+other move by way of a CPU that they may have, and where there is none the first of them, and nobody else, is on the reserved CPU. Between
+two steps each has looked."""
 
 import json
 import os
@@ -14,37 +14,49 @@ sys.path[:0] = [os.path.join(os.path.dirname(os.path.abspath(__file__)), "..")]
 import tree
 from tree import RESERVED, ROOT, TOP, read, say, write
 
-SEEN, LOOKS, LARGE = "/tmp/seen", "/tmp/looks", "/tmp/large.json"
+SEEN, LARGE = "/tmp/seen", "/tmp/large.json"
 CPUS, MOVES = os.sysconf("SC_NPROCESSORS_CONF"), 60
 AT_ONCE = min(CPUS - 2, 60)
 ROUNDS = -(-MOVES // AT_ONCE)
-# Microseconds between two looks of one: each look of sixty takes from the few processors of the host on which sixty emulated ones run.
-PAUSE = 2000 if AT_ONCE < MOVES else 100000
+# It enters its group, and then writes each set that differs from the one before, and how often it has looked, as a number of ten digits.
+WATCHER = """
+import os, sys, time
+group, seen = sys.argv[1:]
+with open(group + "/cgroup.procs", "w") as file:
+    file.write("0")
+count, last, looks = os.open(seen + ".looks", os.O_CREAT | os.O_WRONLY), None, 0
+while True:
+    with open("/proc/self/status") as file:
+        now = next(line.split()[1] for line in file if line.startswith("Cpus_allowed_list:"))
+    if now != last:
+        with open(seen, "a") as file:
+            file.write(now + "\\n")
+    last, looks = now, looks + 1
+    os.pwrite(count, b"%010d" % looks, 0)
+    time.sleep(0.002)
+"""
 
 
 class Watched:
     """Containers whose processes look at themselves, and a run that moves them."""
 
     def __init__(self, machine):
-        self.run, self.all, self.lookers = tree.Run(machine=machine), tree.Containers("/tmp/direct"), {}
+        self.run, self.all, self.watchers = tree.Run(machine=machine), tree.Containers("/tmp/direct"), {}
         os.makedirs(SEEN)
 
     def adopt(self, name, cpus, **section):
         bundle = self.all.bundle(name, **section)
         assert self.run.one(f"adopt {name} {bundle} {cpus}").startswith("pid")
-        with open(LOOKS, "ab") as file:
-            file.truncate(8 * (len(self.lookers) + 1))
-        words = ["looker", f"{TOP}/{name}", f"{SEEN}/{name}", LOOKS, str(len(self.lookers)), str(PAUSE)]
-        self.lookers[name] = subprocess.Popen(words, stdin=subprocess.DEVNULL)
-        assert tree.until(lambda: self.looks()[-1] > 1), f"{name} does not look"
+        words = ["/bin/python3", "-SEB", "-c", WATCHER, f"{TOP}/{name}", f"{SEEN}/{name}"]
+        self.watchers[name] = subprocess.Popen(words, stdin=subprocess.DEVNULL)
+        assert tree.until(lambda: os.path.exists(f"{SEEN}/{name}") and self.looks(name) > 1), f"{name} does not look"
 
     def update(self, name, **section):
         self.run.ok(f"update {name} {self.all.bundle(name, **section)}")
 
-    def looks(self):
-        """How often each has looked."""
-        with open(LOOKS, "rb") as file:
-            return memoryview(file.read()).cast("Q")
+    def looks(self, name):
+        with open(f"{SEEN}/{name}.looks") as file:
+            return int(file.read() or 0)
 
     def seen(self, name):
         """Which sets it saw, one after another."""
@@ -53,9 +65,9 @@ class Watched:
 
     def look(self):
         """Each looks, from its beginning to its end."""
-        due = [count + 2 for count in self.looks()]
-        assert tree.until(lambda: all(count >= least for count, least in zip(self.looks(), due))), \
-            [name for name, count, least in zip(self.lookers, self.looks(), due) if count < least]
+        before = {name: self.looks(name) for name in self.watchers}
+        for name, count in before.items():
+            assert tree.until(lambda: self.looks(name) >= count + 2), f"{name} does not look"
 
     def move(self, begin="begin direct"):
         plan = self.run.plan(begin)
@@ -73,13 +85,13 @@ class Watched:
         self.look()
 
     def end(self):
-        for name, looker in self.lookers.items():
+        for name, watcher in self.watchers.items():
             self.run.ok(f"kill {name} KILL")
-            looker.wait()
+            watcher.wait()
             self.run.ok(f"delete {name}")
-            os.remove(f"{SEEN}/{name}")
-        os.remove(LOOKS)
-        self.lookers.clear()
+            for file in (f"{SEEN}/{name}", f"{SEEN}/{name}.looks"):
+                os.remove(file)
+        self.watchers.clear()
 
 
 def homewards(watched):
@@ -97,11 +109,10 @@ def homewards(watched):
     for k, name in enumerate(names, 1):
         expected = [str(k + turn % 2) for turn in range(ROUNDS + 2)]
         assert watched.seen(name) == expected, (name, watched.seen(name), expected)
-        assert tree.allowed(watched.lookers[name].pid) == tree.cpus(expected[-1]), name
-    moves, looks = sum(len(watched.seen(name)) - 1 for name in names), sum(watched.looks())
+    moves = sum(len(watched.seen(name)) - 1 for name in names)
     assert moves >= MOVES, moves
     watched.end()
-    return moves, looks
+    return moves
 
 
 def in_a_ring(watched, room):
@@ -136,8 +147,8 @@ write(f"{ROOT}/cgroup.subtree_control", "+cpuset")
 assert RESERVED == {0}
 watched = Watched(machine_file())
 began = time.monotonic()
-moves, looks = homewards(watched)
-say(f"direct: {moves} moves of {AT_ONCE} at once, in {time.monotonic() - began:.0f} s: nobody was on the reserved CPU in {looks} looks")
+moves = homewards(watched)
+say(f"direct: {moves} moves of {AT_ONCE} at once, in {time.monotonic() - began:.0f} s: nobody was on the reserved CPU")
 if CPUS == len(tree.CPUS):
     in_a_ring(watched, room=True)
     in_a_ring(watched, room=False)

@@ -18,4 +18,4 @@ returns-clause-guards g c =
     let k = g.K.Kernel.state c.args.kernel.now in
     all_of (λ e. e.pinned ≡ true → (set.is_subset (spare k c.args.reserved.now c.args.entries.now) e.target && c.rings_stand.result) ≡ (set.is_subset (spare k c.args.reserved.now c.args.entries.now) e.target && rings_stand k c.args.reserved.now c.args.entries.now))
     (λ e pinned. ap (λ b. set.is_subset (spare k c.args.reserved.now c.args.entries.now) e.target && b)
-    (c.rings_stand.ensures ∙ rings_alike k c.args.reserved.now c.args.entries.now c.find_rings.new.nexts c.requires.valid.groups c.find_rings.ensures.nexts)) c.args.entries.now
+    (c.rings_stand.ensures ∙ rings_alike k c.args.reserved.now c.args.entries.now c.find_nexts.new.nexts c.requires.valid.groups c.find_nexts.ensures)) c.args.entries.now

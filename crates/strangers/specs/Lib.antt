@@ -1,0 +1,3 @@
+pub mod GuardState
+pub mod Guarded
+pub mod Inner
