@@ -3,6 +3,7 @@ use Rattle.std.proofs.Common.{◌≡◌, ℕ, zero, suc, ◌+◌, ◌<◌, ◌�
 use Rattle.std.proofs.lemmas.Bool.{false≢true, cases_lt}
 use Rattle.std.specs.Prelude.{◌⊎◌, cond, find, Some, slice_get}
 use Rattle.std.specs.FinSet as set
+use Rattle.std.specs.List.{list_all}
 use Rattle.cpu_set.specs.Ids.{Ids}
 use Rattle.cpu_set.specs.PointwiseLaws.{contains-empty}
 use Rattle.cpuset_tree.specs.Groups.{same_group}
@@ -181,3 +182,27 @@ module _ (k : KernelState) (reserved : Ids) (entries : List Entry) (e : Entry) (
 
   pub next_is : next k reserved entries e ≡ slice_get entries r
   next_is = find_place (holds_some k reserved e lacking) entries r none_before there_passes
+
+-- where each is pinned, whoever counts among the pinned ones is anyone
+module _ (k : KernelState) (reserved : Ids) where
+  pinned_at : (entries : List Entry) (i : ℕ) (d : Entry) → list_all (λ e. e.pinned) entries ≡ true → i < length entries → d ≡ get_or entries i d → d.pinned ≡ true
+  pinned_at [] i d all within at = absurd (omega arith)
+  pinned_at (e ∷ es) zero d all within at = ap (λ (z : Entry). z.pinned) at ∙ (both_of e.pinned (list_all (λ e. e.pinned) es) all).0
+  pinned_at (e ∷ es) (suc i) d all within at = pinned_at es i d (both_of e.pinned (list_all (λ e. e.pinned) es) all).1 (omega arith) at
+
+  counts_too : (q : ℕ) (d : Entry) → d.pinned ≡ true → has_cpu k false q d ≡ has_cpu k true q d
+  counts_too q d pinned = ap (λ p. (p && is_alive k.table d.pid) && set.contains (held k d) q) pinned
+
+  pub firsts_of_pinned : (entries : List Entry) → list_all (λ e. e.pinned) entries ≡ true → (upto : ℕ) (seen : Ids) (places : List ℕ) → upto ≤ length entries
+      → AreFirsts k reserved entries true upto seen places → AreFirsts k reserved entries false upto seen places
+  firsts_of_pinned entries all upto seen places room firsts = record {
+    outside = firsts.outside;
+    within = firsts.within;
+    holds = λ q d m at. counts_too q d (pinned_at entries (get_or places q 0) d all (inside q m) at) ∙ firsts.holds q d m at;
+    first = λ q j d m less at.
+        let place : get_or places q 0 < length entries = inside q m in
+        counts_too q d (pinned_at entries j d all (omega (arith, less, place)) at) ∙ firsts.first q j d m less at;
+    none = λ q j d out free less at. counts_too q d (pinned_at entries j d all (omega (arith, less, room)) at) ∙ firsts.none q j d out free less at;
+  } where
+    inside : (q : ℕ) → set.contains seen q ≡ true → get_or places q 0 < length entries
+    inside q m = let near : get_or places q 0 < upto = firsts.within q m in omega (arith, near, room)

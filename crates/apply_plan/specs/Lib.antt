@@ -44,6 +44,7 @@ pub mod NextLemmas
 pub mod FirstHolders
 pub mod FirstHolderLemmas
 pub mod TurnLemmas
+pub mod TellLemmas
 pub mod DirectRuns
 pub mod DirectRunLemmas
 pub mod DirectOneStep

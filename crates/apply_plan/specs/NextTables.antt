@@ -1,4 +1,4 @@
--- Who waits for whom, as a table of places tells it. No public clause cites this module.
+-- Who waits for whom, as a table of places tells it.
 use Rattle.std.specs.Prelude.{◌≡◌, ℕ, zero, suc, ◌<◌, Bool, false, ◌&&◌, ◌||◌, ◌==◌, nat_lt, List, length, get_or, slice_get, slice_index}
 use Rattle.cpu_set.specs.Ids.{Ids}
 use Rattle.kernel_model.specs.KernelState.{KernelState}

@@ -1,5 +1,5 @@
 -- Who stands in a ring, as a table of marks tells it. The mark 0 tells nothing of one, the mark 1 that it stands in a ring, and any
--- other that it stands in none. No public clause cites this module.
+-- other that it stands in none.
 use Rattle.std.specs.Prelude.{◌≡◌, ℕ, ◌<◌, true, false, ◌==◌, List, length, get_or, slice_index}
 use Rattle.cpu_set.specs.Ids.{Ids}
 use Rattle.kernel_model.specs.KernelState.{KernelState}

@@ -1,4 +1,4 @@
--- Whose turn it is in a direct hand-over, as the program looks for it. No public clause cites this module.
+-- Whose turn it is in a direct hand-over, as the program looks for it.
 use Rattle.std.specs.Prelude.{◌≡◌, Bool, true, not, ◌&&◌, List, find, Some}
 use Rattle.std.specs.List.{AllByRecursion}
 use Rattle.std.specs.FinSet as set

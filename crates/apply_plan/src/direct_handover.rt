@@ -146,6 +146,13 @@ impl DirectHandover {
         &self.reserved
     }
 
+    /// What each container is allowed beside its target, in the order of the entries.
+    pub fn allowed(&self) -> &[IdSet]
+        ensures { result.now ≡ self.now.allowed }
+    {
+        self.allowed.as_slice()
+    }
+
     /// Whether each live container holds its target.
     pub fn has_arrived<K: Kernel>(&self, kernel: &K) -> bool
         requires { ArePlaced (K.state kernel.now) self.now.targets.entries }

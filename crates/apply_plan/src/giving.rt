@@ -6,7 +6,7 @@ ghost use Rattle.apply_plan.specs.Targets.{IsHandover, ArePlaced};
 ghost use Rattle.apply_plan.specs.DirectWords.{blocks, way, places};
 ghost use Rattle.apply_plan.specs.Directed.{allowed_in};
 ghost use Rattle.apply_plan.specs.DirectWrite.{must_yield, has_room, has_place, shared_way, aside, gets};
-ghost use Rattle.apply_plan.specs.Overviews.{IsOverview};
+ghost use Rattle.apply_plan.specs.Overviews.{IsOverview, Tells};
 ghost use Rattle.apply_plan.specs.RingMarks.{AreRings};
 ghost use Rattle.apply_plan.specs.Turns.{IsIn, gives_by, gets_by};
 ghost use Rattle.std.specs.FinSet as set;
@@ -30,7 +30,7 @@ pub enum Giving {
 }
 
 /// Whether a live container holds some of what others ask of it, as the look over all entries tells it.
-fn blocks<K: Kernel>(
+pub fn blocks<K: Kernel>(
     kernel: &K,
     reserved: &IdSet,
     entries: &[Entry],
@@ -58,9 +58,7 @@ fn way<K: Kernel>(
     entry: &Entry,
 ) -> IdSet
     requires group { has_group (K.state kernel.now).tree entry.now.group ≡ true }
-    requires valid { IsHandover (record { entries = entries.now; reserved = reserved.now }) }
-    requires at { IsIn entries.now entry.now }
-    requires seen { IsOverview (K.state kernel.now) reserved.now entries.now seen.now }
+    requires tells { Tells (K.state kernel.now) reserved.now entries.now seen.now entry.now }
     ensures { result ≡ way (K.state kernel.now) reserved.now entries.now entry.now }
 {
     let stays = requested(kernel, entry.group).minus(&seen.asks(entry).minus(reserved));
@@ -77,9 +75,7 @@ fn places<K: Kernel>(
     allowed: &IdSet,
     entry: &Entry,
 ) -> IdSet
-    requires valid { IsHandover (record { entries = entries.now; reserved = reserved.now }) }
-    requires at { IsIn entries.now entry.now }
-    requires seen { IsOverview (K.state kernel.now) reserved.now entries.now seen.now }
+    requires tells { Tells (K.state kernel.now) reserved.now entries.now seen.now entry.now }
     ensures { result ≡ places (K.state kernel.now) reserved.now entries.now allowed.now entry.now }
 {
     let spare = kernel.online().minus(reserved).minus(&seen.held);
@@ -125,9 +121,7 @@ fn has_either<K: Kernel, C: Cores>(
     entry: &Entry,
 ) -> bool
     requires group { has_group (K.state kernel.now).tree entry.now.group ≡ true }
-    requires valid { IsHandover (record { entries = entries.now; reserved = reserved.now }) }
-    requires at { IsIn entries.now entry.now }
-    requires seen { IsOverview (K.state kernel.now) reserved.now entries.now seen.now }
+    requires tells { Tells (K.state kernel.now) reserved.now entries.now seen.now entry.now }
     ensures { result ≡ (has_room (K.state kernel.now) reserved.now entries.now entry.now
         || has_place (K.state kernel.now) reserved.now entries.now (λ _. allowed.now) (C.least_of cores.now) entry.now) }
 {
@@ -141,7 +135,7 @@ fn has_either<K: Kernel, C: Cores>(
 }
 
 /// Whether it is a container's turn to give way.
-fn gives<K: Kernel, C: Cores>(
+pub fn gives<K: Kernel, C: Cores>(
     kernel: &K,
     cores: &C,
     reserved: &IdSet,
@@ -207,9 +201,7 @@ fn aside<K: Kernel, C: Cores>(
     entry: &Entry,
 ) -> IdSet
     requires group { has_group (K.state kernel.now).tree entry.now.group ≡ true }
-    requires valid { IsHandover (record { entries = entries.now; reserved = reserved.now }) }
-    requires at { IsIn entries.now entry.now }
-    requires seen { IsOverview (K.state kernel.now) reserved.now entries.now seen.now }
+    requires tells { Tells (K.state kernel.now) reserved.now entries.now seen.now entry.now }
     ensures { result ≡ aside (K.state kernel.now) reserved.now entries.now (λ _. allowed.now) (C.least_of cores.now) entry.now }
 {
     let way = way(kernel, reserved, entries, seen, entry);
@@ -219,8 +211,8 @@ fn aside<K: Kernel, C: Cores>(
     way.union(&cores.least(&spots, count))
 }
 
-/// What a container gets that gives way.
-fn gets<K: Kernel, C: Cores>(
+/// What a container gets that gives way, as an overview tells what it has on its way, and its places.
+pub fn gets<K: Kernel, C: Cores>(
     kernel: &K,
     cores: &C,
     reserved: &IdSet,
@@ -231,9 +223,7 @@ fn gets<K: Kernel, C: Cores>(
     entry: &Entry,
 ) -> IdSet
     requires group { has_group (K.state kernel.now).tree entry.now.group ≡ true }
-    requires valid { IsHandover (record { entries = entries.now; reserved = reserved.now }) }
-    requires at { IsIn entries.now entry.now }
-    requires seen { IsOverview (K.state kernel.now) reserved.now entries.now seen.now }
+    requires tells { Tells (K.state kernel.now) reserved.now entries.now seen.now entry.now }
     ensures { result ≡ gets_by (K.state kernel.now) reserved.now entries.now (λ _. allowed.now) (C.least_of cores.now) giving
         entry.now }
 {
@@ -248,7 +238,7 @@ fn gets<K: Kernel, C: Cores>(
 }
 
 /// The CPUs that the entry at this place is allowed beside its target.
-fn allowed_at(allowed: &[IdSet], place: usize) -> IdSet
+pub fn allowed_at(allowed: &[IdSet], place: usize) -> IdSet
     ensures { result ≡ get_or allowed.now place set.empty }
 {
     match allowed.get(place) {

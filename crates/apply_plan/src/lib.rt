@@ -29,4 +29,8 @@ mod walks;
 pub use cores::Cores;
 pub use direct_handover::DirectHandover;
 pub use entry::Entry;
+pub use giving::{Giving, allowed_at, blocks, gets, gives};
 pub use handover::{Handover, Progress};
+pub use overview::Overview;
+pub use ring_marks::is_in_ring;
+pub use rings::find_rings;

@@ -1,6 +1,7 @@
 //! Who waits for whom in a direct hand-over, and who of them stands in a ring.
 ghost use Rattle.std.specs.Prelude.{◌≡◌, ℕ, ◌+◌, ◌<◌, ◌&&◌, ◌||◌, true, false, cond, length, get_or, slice_get};
 ghost use Rattle.std.specs.FinSet as set;
+ghost use Rattle.std.specs.List.{list_all};
 ghost use Rattle.cpu_set.specs.declared.TheConstants.{CPU_LIMIT};
 ghost use Rattle.cpuset_tree.specs.Groups.{has_group};
 ghost use Rattle.proctable.specs.Processes.{is_alive};
@@ -143,21 +144,59 @@ fn next_by<K: Kernel>(
     }
 }
 
+/// Whether each container is pinned.
+fn are_pinned(entries: &[Entry]) -> bool
+    ensures { result ≡ list_all (λ e. e.pinned) entries.now }
+{
+    entries.iter().all(|entry| entry.pinned)
+}
+
+/// Tells for each entry the place of the one that it waits for, or one past the end where it waits for none, by both
+/// tables.
+fn look_nexts_up<K: Kernel>(
+    kernel: &K,
+    reserved: &IdSet,
+    entries: &[Entry],
+    held: &IdSet,
+    holders: &[usize; CPUS],
+    owned: &IdSet,
+    owners: &[usize; CPUS],
+    nexts: &mut [usize],
+)
+    requires placed { ArePlaced (K.state kernel.now) entries.now }
+    requires tables { (length holders.now ≡ CPU_LIMIT) × (length owners.now ≡ CPU_LIMIT) }
+    requires holders { AreFirsts (K.state kernel.now) reserved.now entries.now true (length entries.now) held.now holders.now }
+    requires owners { AreFirsts (K.state kernel.now) reserved.now entries.now false (length entries.now) owned.now owners.now }
+    requires room { length nexts.old ≡ length entries.now }
+    ensures { AreNexts (K.state kernel.now) reserved.now entries.now nexts.new }
+{
+    for (place, entry) in entries.iter().enumerate() {
+        nexts[place] = next_by(
+            kernel, reserved, entries, held, holders, owned, owners, entry,
+        );
+    }
+}
+
 /// Tells for each entry the place of the one that it waits for, or one past the end where it waits for none.
 ///
-/// Two walks over all entries note who holds each CPU first, and a third one looks the CPUs up that each lacks.
+/// A walk over all entries notes who holds each CPU first. Unless all are pinned, another one notes which pinned one
+/// does. A last one looks the CPUs up that each lacks.
 fn find_nexts<K: Kernel>(kernel: &K, reserved: &IdSet, entries: &[Entry], nexts: &mut [usize])
     requires placed { ArePlaced (K.state kernel.now) entries.now }
     requires room { length nexts.old ≡ length entries.now }
     ensures { AreNexts (K.state kernel.now) reserved.now entries.now nexts.new }
 {
     let mut holders = [0; CPUS];
-    let mut owners = [0; CPUS];
     let held = note_holders(kernel, reserved, entries, true, &mut holders);
-    let owned = note_holders(kernel, reserved, entries, false, &mut owners);
-    for (place, entry) in entries.iter().enumerate() {
-        nexts[place] = next_by(
-            kernel, reserved, entries, &held, &holders, &owned, &owners, entry,
+    if are_pinned(entries) {
+        look_nexts_up(
+            kernel, reserved, entries, &held, &holders, &held, &holders, nexts,
+        );
+    } else {
+        let mut owners = [0; CPUS];
+        let owned = note_holders(kernel, reserved, entries, false, &mut owners);
+        look_nexts_up(
+            kernel, reserved, entries, &held, &holders, &owned, &owners, nexts,
         );
     }
 }

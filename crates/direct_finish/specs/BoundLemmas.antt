@@ -21,7 +21,7 @@ use Rattle.apply_plan.specs.TurnLemmas.{is_apart}
 use Rattle.apply_plan.specs.NextLemmas.{all_places, none_left}
 use Rattle.apply_plan.specs.FirstHolderLemmas.{same_here}
 use Rattle.direct_finish.specs.declared.bounds.Bounds.{Bounds}
-use Rattle.direct_finish.specs.Bounded.{IsBounded, AreBounded, IsWithin}
+use Rattle.direct_finish.specs.Bounded.{IsBounded, AreBounded, IsWithin, own_of}
 
 module _ (k : KernelState) (reserved : Ids) (entries : List Entry) (valid : IsHandover (record { entries = entries; reserved = reserved })) (e : Entry) (at : IsIn entries e)
     (b : Bounds) (bounded : AreBounded k reserved entries b) where
@@ -77,7 +77,7 @@ module _ (k : KernelState) (reserved : Ids) (entries : List Entry) (valid : IsHa
   pub free_at_sight : IsDisjoint b.held e.target → are_free k reserved entries e e.target ≡ true
   free_at_sight apart = free_if_out (λ d q pinned bound lets mine lacks theirs free. apart q (bound.all lets q theirs free) mine)
 
-  pub free_shared : e.pinned ≡ false → IsDisjoint b.pinned e.target → are_free k reserved entries e e.target ≡ true
+  pub free_shared : e.pinned ≡ false → IsDisjoint (own_of b) e.target → are_free k reserved entries e e.target ≡ true
   free_shared shared apart = free_if_out (λ d q pinned bound lets mine lacks theirs free.
       apart q (bound.own lets (ap (λ p. p || d.pinned) (sym shared) ∙ pinned) q theirs free) mine)
 
@@ -106,16 +106,16 @@ within_more k reserved a b d within bound = record {
 pub within_itself : (a b : Bounds) → b ≡ a → IsWithin a b
 within_itself a b same = record {
   all = λ q m. ap (λ (x : Bounds). set.contains x.held q) same ∙ m;
-  own = λ q m. ap (λ (x : Bounds). set.contains x.pinned q) same ∙ m;
+  own = λ q m. ap (λ (x : Bounds). set.contains (own_of x) q) same ∙ m;
 }
 
 -- what one more holds is added
 module _ (k : KernelState) (reserved : Ids) (a b : Bounds) (d : Entry) (h : Ids) (is_held : h ≡ held k d) (all_is : b.held ≡ set.union a.held h)
-    (own_is : b.pinned ≡ set.union a.pinned (cond d.pinned h set.empty)) where
+    (own_is : own_of b ≡ set.union (own_of a) (cond d.pinned h set.empty)) where
   pub added_within : IsWithin a b
   added_within = record {
     all = λ q m. ap (λ s. set.contains s q) all_is ∙ union_left a.held h q m;
-    own = λ q m. ap (λ s. set.contains s q) own_is ∙ union_left a.pinned (cond d.pinned h set.empty) q m;
+    own = λ q m. ap (λ s. set.contains s q) own_is ∙ union_left (own_of a) (cond d.pinned h set.empty) q m;
   }
 
   pub added_bounded : IsBounded k reserved b d
@@ -123,15 +123,15 @@ module _ (k : KernelState) (reserved : Ids) (a b : Bounds) (d : Entry) (h : Ids)
     all = λ lets q m free. ap (λ s. set.contains s q) all_is ∙ union_right a.held h q (ap (λ s. set.contains s q) is_held ∙ m);
     own = λ lets pinned q m free.
         ap (λ s. set.contains s q) own_is
-        ∙ union_right a.pinned (cond d.pinned h set.empty) q (ap (λ p. set.contains (cond p h set.empty) q) pinned ∙ ap (λ s. set.contains s q) is_held ∙ m);
+        ∙ union_right (own_of a) (cond d.pinned h set.empty) q (ap (λ p. set.contains (cond p h set.empty) q) pinned ∙ ap (λ s. set.contains s q) is_held ∙ m);
   }
 
 -- the reserved CPUs are taken out of bounds
-pub outside_bounded : (k : KernelState) (reserved : Ids) (a b : Bounds) (d : Entry) → b.held ≡ set.difference a.held reserved → b.pinned ≡ set.difference a.pinned reserved
+pub outside_bounded : (k : KernelState) (reserved : Ids) (a b : Bounds) (d : Entry) → b.held ≡ set.difference a.held reserved → own_of b ≡ set.difference (own_of a) reserved
     → IsBounded k reserved a d → IsBounded k reserved b d
 outside_bounded k reserved a b d all_is own_is bound = record {
   all = λ lets q m free. ap (λ s. set.contains s q) all_is ∙ minus_has a.held reserved q (bound.all lets q m free) free;
-  own = λ lets pinned q m free. ap (λ s. set.contains s q) own_is ∙ minus_has a.pinned reserved q (bound.own lets pinned q m free) free;
+  own = λ lets pinned q m free. ap (λ s. set.contains s q) own_is ∙ minus_has (own_of a) reserved q (bound.own lets pinned q m free) free;
 }
 
 -- one more entry of a look
@@ -147,7 +147,7 @@ one_more_bounded k reserved entries a b i e within at grows here before j d less
 ]
 
 pub all_bounded : (k : KernelState) (reserved : Ids) (entries : List Entry) (a b : Bounds) (i : ℕ) → length entries ≤ i → b.held ≡ set.difference a.held reserved
-    → b.pinned ≡ set.difference a.pinned reserved → ((j : ℕ) (d : Entry) → j < i → d ≡ get_or entries j d → IsBounded k reserved a d)
+    → own_of b ≡ set.difference (own_of a) reserved → ((j : ℕ) (d : Entry) → j < i → d ≡ get_or entries j d → IsBounded k reserved a d)
     → AreBounded k reserved entries b
 all_bounded k reserved entries a b i past all_is own_is before =
     all_places (IsBounded k reserved b) entries

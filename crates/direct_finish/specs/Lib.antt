@@ -12,3 +12,9 @@ pub mod SeldomWritten
 pub mod SeldomLemmas
 pub mod FinishesTold
 pub mod FinishesToldLemmas
+pub mod Seen
+pub mod CalmLemmas
+pub mod SeenLemmas
+pub mod GiveLemmas
+pub mod Settled
+pub mod SettledLemmas

@@ -25,7 +25,7 @@ use Rattle.apply_plan.specs.TurnLemmas.{is_alone}
 use Rattle.apply_plan.specs.DirectedLemmas.{found_at}
 use Rattle.direct_finish.specs.declared.bounds.Bounds.{Bounds}
 use Rattle.direct_finish.specs.FinishesDirectly.{TakesFree}
-use Rattle.direct_finish.specs.Bounded.{IsBounded}
+use Rattle.direct_finish.specs.Bounded.{IsBounded, own_of}
 use Rattle.direct_finish.specs.BoundLemmas.{rests_bounded, rests_if_grows}
 use Rattle.direct_finish.specs.Follows.{IsReady}
 
@@ -46,7 +46,7 @@ module _ (h : Targets) (valid : IsHandover h) (old : KernelState) (place : ℕ) 
   takes_free = record { test = is_it; e = e; found = found; is = refl; may = may }
 
   module _ (b after : Bounds) (worth : Bool) (ready : IsReady h old b) (before : Ids) (is_held : before ≡ held old e)
-      (all_is : after.held ≡ set.difference b.held (cond (worth && e.pinned) before set.empty)) (own_is : after.pinned ≡ set.difference b.pinned (cond (worth && e.pinned) before set.empty)) where
+      (all_is : after.held ≡ set.difference b.held (cond (worth && e.pinned) before set.empty)) (own_is : own_of after ≡ set.difference (own_of b) (cond (worth && e.pinned) before set.empty)) where
     w : IsWrite old new e.group e.target
     w = is_write old e.group e.target (find_among is_it (λ a. IsPlaced old a.group) h.entries e ready.placed found).there
 
@@ -98,7 +98,7 @@ module _ (h : Targets) (valid : IsHandover h) (old : KernelState) (place : ℕ) 
               ∙ stays b.held q (off_it a other known.1 lets q m free) (bound.all (lets_before a other lets) q (ap (λ s. set.contains s q) (sym (same a other)) ∙ m) free);
           own = λ lets pinned q m free.
               ap (λ s. set.contains s q) own_is
-              ∙ stays b.pinned q (off_it a other known.1 lets q m free) (bound.own (lets_before a other lets) pinned q (ap (λ s. set.contains s q) (sym (same a other)) ∙ m) free);
+              ∙ stays (own_of b) q (off_it a other known.1 lets q m free) (bound.own (lets_before a other lets) pinned q (ap (λ s. set.contains s q) (sym (same a other)) ∙ m) free);
         })
 
     pub ready_after : IsReady h new after

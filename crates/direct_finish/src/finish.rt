@@ -3,23 +3,69 @@ ghost use Rattle.std.specs.Prelude.{◌≡◌, ◌+◌, ◌*◌, ◌≤◌, leng
 ghost use Rattle.kernel_model.specs.KernelState.{KernelState, writes};
 ghost use Rattle.kernel_model.specs.Cases.{rise};
 ghost use Rattle.apply_plan.specs.Holders.{IsSafe};
-ghost use Rattle.apply_plan.specs.Targets.{holders_of, ArePlaced};
+ghost use Rattle.apply_plan.specs.Targets.{holders_of, IsHandover, ArePlaced};
 ghost use Rattle.apply_plan.specs.Leaves.{KeepsRest};
 ghost use Rattle.apply_plan.specs.DueWrite.{HaveTargets};
 ghost use Rattle.apply_plan.specs.Directed.{IsDirected, Serves};
 ghost use Rattle.apply_plan.specs.OnWay.{AreOnWay};
 ghost use Rattle.apply_plan.specs.DirectOneStep.{SpendsDirectly};
 ghost use Rattle.direct_finish.specs.FinishesDirectly.{MayFollow, FinishesDirectly, SqueezesInRings};
-ghost use Rattle.direct_finish.specs.Follows.{Leaves, Turns};
+ghost use Rattle.direct_finish.specs.Follows.{Leaves, Falls, Turns, IsReady};
+ghost use Rattle.direct_finish.specs.Seen.{directed};
 
 use crate::Agenda;
+use crate::bounds::Bounds;
 use crate::look::look;
+use crate::rings::break_rings;
 use crate::settle::settle;
-use apply_plan::{Cores, DirectHandover};
+use apply_plan::{Cores, DirectHandover, Entry};
+use cpu_set::IdSet;
 use kernel_model::{Kernel, KernelFault};
 
-/// Makes one turn: gives their targets to all who can get them, or else takes a single step. Tells whether nobody must
-/// move.
+/// Breaks rings, where there is room to note what one look tells of them. Tells whether anything was written.
+fn break_if_room<K: Kernel, C: Cores>(
+    kernel: &mut K,
+    cores: &C,
+    reserved: &IdSet,
+    entries: &[Entry],
+    allowed: &[IdSet],
+    bounds: &mut Bounds,
+    agenda: &mut Agenda,
+) -> Result<bool, KernelFault>
+    requires valid { IsHandover (record { entries = entries.now; reserved = reserved.now }) }
+    requires serves { Serves (directed entries.now reserved.now allowed.now) (C.least_of cores.now) }
+    requires ready { IsReady (record { entries = entries.now; reserved = reserved.now }) (K.state kernel.old) bounds.old }
+    ensures leaves { Leaves (MayFollow (directed entries.now reserved.now allowed.now) (C.least_of cores.now)) (K.state kernel.old) result
+        (K.state kernel.new) }
+    ensures falls { IfOk result (Falls (record { entries = entries.now; reserved = reserved.now }) (K.state kernel.old)
+        (K.state kernel.new)) }
+{
+    let count = entries.len();
+    if agenda.nexts.len() != count
+        || agenda.marks.len() != count
+        || agenda.standings.len() != count
+    {
+        return Ok(false);
+    }
+    let nexts = agenda.nexts.as_mut_slice();
+    let marks = agenda.marks.as_mut_slice();
+    let standings = agenda.standings.as_mut_slice();
+    break_rings(
+        kernel,
+        cores,
+        reserved,
+        entries,
+        allowed,
+        bounds,
+        &mut agenda.queue,
+        nexts,
+        marks,
+        standings,
+    )
+}
+
+/// Makes one turn: gives their targets to all who can get them, or else breaks rings, as long as one look tells how, or
+/// else takes a single step. Tells whether nobody must move.
 fn turn<K: Kernel, C: Cores>(
     handover: &mut DirectHandover,
     kernel: &mut K,
@@ -37,12 +83,24 @@ fn turn<K: Kernel, C: Cores>(
     cores.gives_least();
     let reserved = *handover.reserved();
     let entries = handover.entries();
-    let (mut bounds, arrived) = look(&*kernel, &reserved, entries, agenda);
+    let (mut bounds, arrived) = look(&*kernel, &reserved, entries, &mut agenda.queue);
     if arrived {
         return Ok(true);
     }
-    let moved = settle(kernel, &reserved, entries, &mut bounds, agenda)?;
+    let moved = settle(kernel, &reserved, entries, &mut bounds, &mut agenda.queue)?;
     if moved {
+        return Ok(false);
+    }
+    let broke = break_if_room(
+        kernel,
+        cores,
+        &reserved,
+        entries,
+        handover.allowed(),
+        &mut bounds,
+        agenda,
+    )?;
+    if broke {
         return Ok(false);
     }
     handover.step(kernel, cores)?;
@@ -76,9 +134,14 @@ fn finish_body<K: Kernel, C: Cores>(
 /// They need not be those of single steps one by one, nor in their order: a container takes its target as soon as no
 /// rival holds any of it. What ways round there are is what single steps make of them, since each is one of theirs.
 ///
-/// Looks each of n entries through a few times, and once more for each ring that has to be broken, where single steps
-/// look all of them through for each write. Allocates nothing: what it needs to remember is in the agenda, which may
-/// have served other hand-overs before. One that has room for fewer entries serves too, and costs more looks.
+/// Looks each of n entries through a few times, where single steps look all of them through for each write. For each
+/// ring that has to be broken it looks at the few of that ring, and goes over a word for each entry, unless those are
+/// two for whom nobody else waits. Behind one that was squeezed it may also ask of each CPU of its target who must give
+/// way yet and is allowed it. It looks all through anew where a ring leaves other CPUs than it found. So it does for
+/// each ring with a shared container, and where one that others wait for, outside of rings, waited for one that moved.
+///
+/// Allocates nothing: what it needs to remember is in the agenda, which may have served other hand-overs before. One
+/// that has room for other numbers of entries serves too, and costs more looks.
 ///
 /// # Errors
 /// `Failed` where a write failed: it is told and counted, and no other was made after it; the hand-over may go on.

@@ -2,9 +2,11 @@
 //! of one for each write.
 //!
 //! [`finish_directly`] gives each container its target as soon as no rival can hold any of it. It knows that by what
-//! those hold together that are yet to let go, which it keeps up to date from write to write. Only where containers
-//! wait for each other in rings does it take a single step of [`DirectHandover`](apply_plan::DirectHandover), which
-//! breaks one.
+//! those hold together that are yet to let go, which it keeps up to date from write to write.
+//!
+//! Where containers wait for each other in rings, one look at all of them notes who stands in one, and who can step
+//! aside. Ring after ring is broken by that look, as long as it still tells which write is due. Only where it tells
+//! nothing is a single step of [`DirectHandover`](apply_plan::DirectHandover) taken.
 //!
 //! To see or to stop a hand-over between its writes, take single steps.
 //!
@@ -18,13 +20,21 @@
 #![tactic(auto)]
 
 mod agenda;
+mod befores;
 mod bounds;
+mod calm;
 mod finish;
 pub mod laws;
 mod look;
 mod places;
+mod queue;
+mod rings;
 mod settle;
+mod sight;
+mod since;
+mod standing;
 mod take;
+mod wanted;
 
 pub use agenda::Agenda;
 pub use finish::finish_directly;

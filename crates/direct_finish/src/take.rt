@@ -10,15 +10,16 @@ ghost use Rattle.apply_plan.specs.Turns.{IsIn};
 ghost use Rattle.direct_finish.specs.FinishesDirectly.{TakesFree};
 ghost use Rattle.direct_finish.specs.Bounded.{AreBounded};
 ghost use Rattle.direct_finish.specs.Follows.{Leaves, Falls, IsReady};
+ghost use Rattle.direct_finish.specs.Seen.{TakesAt};
 
-use crate::Agenda;
 use crate::bounds::Bounds;
+use crate::queue::Queue;
 use apply_plan::Entry;
 use cpu_set::IdSet;
 use kernel_model::{Kernel, KernelFault, requested};
 
 /// Whether a live container does not hold its target.
-fn must_move<K: Kernel>(kernel: &K, entry: &Entry) -> bool
+pub fn must_move<K: Kernel>(kernel: &K, entry: &Entry) -> bool
     requires { has_group (K.state kernel.now).tree entry.now.group ≡ true }
     ensures { result ≡ must_move (K.state kernel.now) entry.now }
 {
@@ -43,7 +44,7 @@ fn may_take<K: Kernel>(
 }
 
 /// Writes the CPUs that a container is to have.
-fn write<K: Kernel>(kernel: &mut K, entry: &Entry, cpus: IdSet) -> Result<(), KernelFault>
+pub fn write<K: Kernel>(kernel: &mut K, entry: &Entry, cpus: IdSet) -> Result<(), KernelFault>
     requires { IsPlaced (K.state kernel.old) entry.now.group }
     ensures { IsMadeIfAny (Some (write_of entry.now cpus)) (K.state kernel.old) result (K.state kernel.new) }
 {
@@ -57,7 +58,7 @@ pub fn take_at<K: Kernel>(
     reserved: &IdSet,
     entries: &[Entry],
     bounds: &mut Bounds,
-    agenda: &mut Agenda,
+    queue: &mut Queue,
     place: usize,
 ) -> Result<bool, KernelFault>
     requires valid { IsHandover (record { entries = entries.now; reserved = reserved.now }) }
@@ -67,6 +68,8 @@ pub fn take_at<K: Kernel>(
     ensures ready { OnOk result (IsReady (record { entries = entries.now; reserved = reserved.now }) (K.state kernel.new)
         bounds.new) }
     ensures falls { IfOk result (Falls (record { entries = entries.now; reserved = reserved.now }) (K.state kernel.old)
+        (K.state kernel.new)) }
+    ensures takes { IfOk result (TakesAt (record { entries = entries.now; reserved = reserved.now }) place (K.state kernel.old)
         (K.state kernel.new)) }
 {
     if place >= entries.len() {
@@ -78,7 +81,7 @@ pub fn take_at<K: Kernel>(
     }
     let held = *requested(&*kernel, entry.group);
     write(kernel, entry, entry.target)?;
-    bounds.drop_held(agenda.has_movers(), entry, &held);
-    agenda.note_taken(entry, &held);
+    bounds.drop_held(queue.has_movers(), entry, &held);
+    queue.note_taken(entry, &held);
     Ok(true)
 }

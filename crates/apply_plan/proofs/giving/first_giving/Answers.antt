@@ -7,10 +7,13 @@ use Rattle.apply_plan.specs.DueLemmas.{found_here, passed_over}
 use Rattle.apply_plan.specs.MayWrite.{write_of}
 use Rattle.apply_plan.specs.Turns.{gives_by, gets_by}
 use Rattle.apply_plan.specs.TurnLemmas.{gives_alike, gets_alike}
+use Rattle.apply_plan.specs.TellLemmas.{overview_tells}
 use Rattle.apply_plan.proofs.giving.first_giving.Goals as goal
 
-pub gets-requires-clause-at : goal.gets-requires-clause-at
-gets-requires-clause-at g c = found_at c.args.entries.now c.loop-place.place c.index-entries-place.result c.requires.valid.groups c.loop-place-test.true c.index-entries-place.is
+pub gets-requires-clause-tells : goal.gets-requires-clause-tells
+gets-requires-clause-tells g c =
+    overview_tells (g.K.Kernel.state c.args.kernel.now) c.args.reserved.now c.args.entries.now c.args.seen.now c.index-entries-place.result c.requires.valid
+    (found_at c.args.entries.now c.loop-place.place c.index-entries-place.result c.requires.valid.groups c.loop-place-test.true c.index-entries-place.is) c.requires.seen
 
 pub returns-then-gives : goal.returns-then-gives
 returns-then-gives g c =

@@ -19,7 +19,7 @@ loop-place-preserved g c =
 pub returns-clause-bounded : goal.returns-clause-bounded
 returns-clause-bounded g c =
     all_bounded (g.K.Kernel.state c.args.kernel.now) c.args.reserved.now c.args.entries.now c.loop-place.bounds _ c.loop-place.place c.loop-place-test.false
-    c.outside.ensures.held c.outside.ensures.pinned c.loop-place.invariant.bounded
+    c.outside.ensures.held c.outside.ensures.own c.loop-place.invariant.bounded
 
 pub returns-clause-arrived : goal.returns-clause-arrived
 returns-clause-arrived g c =

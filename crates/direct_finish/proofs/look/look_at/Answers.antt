@@ -37,7 +37,7 @@ pub returns : goal.returns
 returns g c =
     let moves = sym c.must_move.ensures ∙ c.if-not-must_move.false in
     record {
-      within = added_within (g.K.Kernel.state c.args.kernel.now) c.args.reserved.now c.args.bounds.now _ c.args.entry.now c.requested-held.result.now c.requested-held.ensures c.add.ensures.held c.add.ensures.pinned;
-      here = added_bounded (g.K.Kernel.state c.args.kernel.now) c.args.reserved.now c.args.bounds.now _ c.args.entry.now c.requested-held.result.now c.requested-held.ensures c.add.ensures.held c.add.ensures.pinned;
+      within = added_within (g.K.Kernel.state c.args.kernel.now) c.args.reserved.now c.args.bounds.now _ c.args.entry.now c.requested-held.result.now c.requested-held.ensures c.add.ensures.held c.add.ensures.own;
+      here = added_bounded (g.K.Kernel.state c.args.kernel.now) c.args.reserved.now c.args.bounds.now _ c.args.entry.now c.requested-held.result.now c.requested-held.ensures c.add.ensures.held c.add.ensures.own;
       arrived = and_false c.args.arrived.now ∙ ap (λ b. c.args.arrived.now && not b) (sym moves);
     }

@@ -1,7 +1,13 @@
-use Rattle.std.proofs.Common.{◌<◌, length, true, sym, subst, arith}
+use Rattle.std.proofs.Common.{◌≡◌, ◌<◌, length, true, sym, ap, ◌∙◌, subst, arith}
+use Rattle.std.specs.Prelude.{Some}
 use Rattle.std.proofs.lemmas.Result.{err_from_is_err_and}
 use Rattle.kernel_model.specs.KernelState.{KernelState}
+use Rattle.apply_plan.specs.declared.Entry.{Entry}
 use Rattle.apply_plan.specs.Targets.{Targets}
+use Rattle.apply_plan.specs.DueWrite.{must_move, written}
+use Rattle.apply_plan.specs.DirectWords.{are_free}
+use Rattle.apply_plan.specs.DirectLemmas.{both_of}
+use Rattle.apply_plan.specs.FirstHolderLemmas.{same_here}
 use Rattle.apply_plan.specs.MayWrite.{write_of}
 use Rattle.apply_plan.specs.DirectedLemmas.{found_at}
 use Rattle.direct_finish.specs.FinishesDirectly.{TakesFree}
@@ -55,7 +61,7 @@ returns-clause-ready g c =
     let inside : c.args.place < length c.args.entries.now = omega arith in
     subst (λ (k : KernelState). IsReady h k c.drop_held.new.self) (sym c.in_ok-write.ensures)
     (ready_after h c.requires.valid old c.args.place e inside c.index-entries-place.is (c.may_take.ensures c.if-not-may_take.false)
-    c.args.bounds.now _ c.has_movers.result c.requires.ready c.requested.result.now c.requested.ensures c.drop_held.ensures.held c.drop_held.ensures.pinned)
+    c.args.bounds.now _ c.has_movers.result c.requires.ready c.requested.result.now c.requested.ensures c.drop_held.ensures.held c.drop_held.ensures.own)
 
 pub returns-clause-falls : goal.returns-clause-falls
 returns-clause-falls g c =
@@ -65,4 +71,17 @@ returns-clause-falls g c =
     let inside : c.args.place < length c.args.entries.now = omega arith in
     subst (λ (k : KernelState). Falls h old k true) (sym c.in_ok-write.ensures)
     (lowers h c.requires.valid old c.args.place e inside c.index-entries-place.is (c.may_take.ensures c.if-not-may_take.false)
-    c.args.bounds.now _ c.has_movers.result c.requires.ready c.requested.result.now c.requested.ensures c.drop_held.ensures.held c.drop_held.ensures.pinned)
+    c.args.bounds.now c.drop_held.new.self c.has_movers.result c.requires.ready c.requested.result.now c.requested.ensures c.drop_held.ensures.held c.drop_held.ensures.own)
+
+pub returns-clause-takes : goal.returns-clause-takes
+returns-clause-takes g c =
+    let old = g.K.Kernel.state c.args.kernel.now in
+    let e = c.index-entries-place.result in
+    let inside : c.args.place < length c.args.entries.now = omega arith in
+    let may = c.may_take.ensures c.if-not-may_take.false in (
+      inside,
+      (λ a at. let same : a ≡ e = same_here c.args.entries.now c.args.place a e inside at c.index-entries-place.is in (
+        c.in_ok-write.ensures ∙ ap (λ (z : Entry). written old (Some (write_of z z.target))) (sym same),
+        ap (must_move old) same ∙ (both_of (must_move old e) (are_free old c.args.reserved.now c.args.entries.now e e.target) may).0,
+      )),
+    )

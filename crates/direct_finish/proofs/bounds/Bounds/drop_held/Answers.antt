@@ -3,6 +3,7 @@ use Rattle.std.specs.Prelude.{cond}
 use Rattle.std.specs.FinSet as set
 use Rattle.cpu_set.specs.Ids.{Ids}
 use Rattle.cpu_set.specs.PointwiseLaws.{same_members, contains-difference, contains-empty}
+use Rattle.direct_finish.specs.Bounded.{own_of}
 use Rattle.direct_finish.proofs.bounds.Bounds.drop_held.Goals as goal
 use Rattle.direct_finish.proofs.bounds.Bounds.drop_held.Goals.{else-worth-via-then-worth+else-entry, else-worth-via-else-worth}
 
@@ -25,10 +26,10 @@ returns-else-worth-clause-held c =
     ] in
     kept c.args.self.now.held c.args.held.now _ off
 
-pub returns-else-worth-clause-pinned : goal.returns-else-worth-clause-pinned
-returns-else-worth-clause-pinned c =
+pub returns-else-worth-clause-own : goal.returns-else-worth-clause-own
+returns-else-worth-clause-own c =
     let off : (c.args.worth && c.args.entry.now.pinned) ≡ false = elim c.else-worth.branch [
       | else-worth-via-then-worth+else-entry w ↦ ap (λ p. c.args.worth && p) w.if-entry.false ∙ ap (λ x. x && false) w.if-worth.true
       | else-worth-via-else-worth w ↦ ap (λ x. x && c.args.entry.now.pinned) w.if-worth.false
     ] in
-    kept c.args.self.now.pinned c.args.held.now _ off
+    kept (own_of c.args.self.now) c.args.held.now _ off

@@ -7,7 +7,7 @@ use Rattle.direct_finish.proofs.bounds.Bounds.leave_free.Goals as goal
 pub returns-then-not-entry : goal.returns-then-not-entry
 returns-then-not-entry g c = λ t.
     free_shared (g.K.Kernel.state c.args.kernel.now) c.args.reserved.now c.args.entries.now c.requires.valid c.args.entry.now c.requires.at c.args.self.now c.requires.bounded
-    c.if-not-entry.true (c.is_disjoint.ensures.0 t)
+    c.if-not-entry.true (subst (λ (s : Ids). IsDisjoint s c.args.entry.now.target) c.own.ensures (c.is_disjoint.ensures.0 t))
 
 pub returns-then-is_disjoint : goal.returns-then-is_disjoint
 returns-then-is_disjoint g c = λ t.
