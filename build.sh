@@ -8,7 +8,6 @@ set -euo pipefail
 cd "$(dirname "${BASH_SOURCE[0]}")"
 crates=${1:-$(nproc)}
 room=$PWD/out/build
-last=(solution node runtime cli numarun)
 
 back() {
     for kept in "$room"/crates/*/out; do
@@ -31,6 +30,9 @@ cp HANDLES "$room"
 # The lowest crates stand first: from the end on, each that is needed is named before its own line comes.
 tac crates.txt | awk -F'[: ]+' 'BEGIN { need["numarun"] } !/^#/ && $1 in need { print; for (i = 2; i <= NF; i++) need[$i] }' \
     | tac >"$room/needed.txt"
+# `solution` waits for nearly all of them, and so does what names it.
+mapfile -t last < <(awk -F'[: ]+' 'BEGIN { late["solution"] } { for (i = 2; i <= NF; i++) if ($i in late) late[$1] } $1 in late { print $1 }' \
+    "$room/needed.txt")
 grep -vE "^($(IFS='|'; echo "${last[*]}")):" "$room/needed.txt" >"$room/crates.txt"
 for name in $(cut -d: -f1 "$room/crates.txt"); do
     put "$name"

@@ -6,8 +6,8 @@ use Rattle.cpu_set.specs.Ids.{Ids, is_same}
 use Rattle.cpu_set.specs.PointwiseLaws.{is_same_decides, same_members}
 use Rattle.std.specs.declared.io.ErrorKind.{ErrorKind}
 use Rattle.std.specs.Prelude.{◌⊎◌, Option, Result, Ok, Err, [], ◌∷◌}
-use Rattle.cgroup_tree.specs.Asked.{Asked, Locked, refused}
-use Rattle.cgroup_tree.specs.Roots.{AnswersRoot, Finding, FindsNoMore, IsFolder, IsTaken, IsListOf, IsFound, CantRead, LooksAtControllers, LooksAtCpus, LooksAtLock, LooksAtMachine, LooksAtMems, LooksAtPartition, MachineTells, RootTells, Tells, behind_lock, AreOthers, HaveOthers}
+use Rattle.cgroup_tree.specs.Asked.{Asked, Stranger, Locked, refused}
+use Rattle.cgroup_tree.specs.Roots.{AnswersRoot, Finding, FindsNoMore, IsFolder, IsTaken, IsListOf, IsFound, CantRead, LooksAtControllers, LooksAtCpus, LooksAtLock, LooksAtMachine, LooksAtMems, LooksAtPartition, LooksAtStrangers, MachineTells, RootTells, Tells, behind_lock, AreOthers, HaveOthers}
 use Rattle.cgroup_tree.specs.declared.fault.RootFault.{RootFault}
 use Rattle.cgroup_tree.specs.declared.fault.RootFault.TheVariants.{Memory, Taken, Unlocked, Unread, NoCpuset, OtherMachine, NoPartition}
 
@@ -99,17 +99,34 @@ module _ (old new : List ℕ → Finding → Type 0) (less : FindsNoMore old new
       → Tells old root file IsOther least most told
   tells_before file IsOther least most told tells = (tells.0, less _ _ tells.1, tells.2, tells.3)
 
-  pub machine_tells_before : (online nodes : Ids) (adopt : Bool) (answer : Result Ids RootFault) (told : List Asked) → MachineTells new root online nodes adopt answer told
-      → MachineTells old root online nodes adopt answer told
-  machine_tells_before online nodes adopt (Ok memory) told tells = tells
-  machine_tells_before online nodes adopt (Err OtherMachine) told (inl tells) = inl (tells_before _ (AreOthers online) _ _ _ tells)
-  machine_tells_before online nodes adopt (Err OtherMachine) told (inr tells) = inr (tells_before _ (HaveOthers nodes) _ _ _ tells)
-  machine_tells_before online nodes adopt (Err NoPartition) told tells = (tells.0, less _ _ tells.1, tells.2, tells.3)
-  machine_tells_before online nodes adopt (Err Memory) told tells = tells
-  machine_tells_before online nodes adopt (Err Taken) told tells = tells
-  machine_tells_before online nodes adopt (Err (Unlocked kind)) told tells = tells
-  machine_tells_before online nodes adopt (Err (Unread kind)) told tells = tells
-  machine_tells_before online nodes adopt (Err NoCpuset) told tells = tells
+  pub machine_tells_before : (online nodes : Ids) (answer : Result Ids RootFault) (told : List Asked) → MachineTells new root online nodes answer told
+      → MachineTells old root online nodes answer told
+  machine_tells_before online nodes (Ok memory) told tells = tells
+  machine_tells_before online nodes (Err OtherMachine) told (inl tells) = inl (tells_before _ (AreOthers online) _ _ _ tells)
+  machine_tells_before online nodes (Err OtherMachine) told (inr tells) = inr (tells_before _ (HaveOthers nodes) _ _ _ tells)
+  machine_tells_before online nodes (Err NoPartition) told tells = (tells.0, less _ _ tells.1, tells.2, tells.3)
+  machine_tells_before online nodes (Err Memory) told tells = tells
+  machine_tells_before online nodes (Err Taken) told tells = tells
+  machine_tells_before online nodes (Err (Unlocked kind)) told tells = tells
+  machine_tells_before online nodes (Err (Unread kind)) told tells = tells
+  machine_tells_before online nodes (Err NoCpuset) told tells = tells
+
+  pub strangers_before : (adopt : Bool) (answer : Result (List Stranger) RootFault) → LooksAtStrangers new root adopt answer → LooksAtStrangers old root adopt answer
+  strangers_before false (Ok strangers) look = look
+  strangers_before true (Ok strangers) look = less _ _ look
+  strangers_before adopt (Err Memory) look = tt
+  strangers_before true (Err (Unread kind)) look = less _ _ look
+  strangers_before false (Err (Unread kind)) look = absurd look
+  strangers_before false (Err Taken) look = absurd look
+  strangers_before true (Err Taken) look = absurd look
+  strangers_before false (Err (Unlocked kind)) look = absurd look
+  strangers_before true (Err (Unlocked kind)) look = absurd look
+  strangers_before false (Err NoCpuset) look = absurd look
+  strangers_before true (Err NoCpuset) look = absurd look
+  strangers_before false (Err OtherMachine) look = absurd look
+  strangers_before true (Err OtherMachine) look = absurd look
+  strangers_before false (Err NoPartition) look = absurd look
+  strangers_before true (Err NoPartition) look = absurd look
 
 -- a root that has to be a partition root and is none, by the last of the looks behind the lock
 pub partition_refused : (finds : List ℕ → Finding → Type 0) (root : List ℕ) (online nodes memory : Ids) (partition : Bool) (why : RootFault) → LooksAtControllers finds root (Ok tt)
@@ -135,15 +152,16 @@ module _ (finds : List ℕ → Finding → Type 0) (root : List ℕ) (online nod
   lock_refused adopt OtherMachine look = absurd look
   lock_refused adopt NoPartition look = absurd look
 
-  pub answer_behind : (partition : Bool) (why : RootFault) → finds root (IsFolder true) → finds root (IsTaken false)
-      → LooksAtMachine finds root online nodes partition (Err why) → AnswersRoot finds root online nodes partition (Err why)
-  answer_behind partition Memory is free looks = tt
-  answer_behind partition Taken is free looks = inr (is, inr (free, looks))
-  answer_behind partition (Unlocked kind) is free looks = inr (is, inr (free, looks))
-  answer_behind partition (Unread kind) is free looks = inr (is, inr (free, looks))
-  answer_behind partition NoCpuset is free looks = inr (is, inr (free, looks))
-  answer_behind partition OtherMachine is free looks = inr (is, inr (free, looks))
-  answer_behind partition NoPartition is free looks = inr (is, inr (free, looks))
+  pub answer_behind : (partition adopt : Bool) (why : RootFault) → finds root (IsFolder true) → finds root (IsTaken false)
+      → LooksAtMachine finds root online nodes partition (Err why) ⊎ (((memory : Ids) × LooksAtMachine finds root online nodes partition (Ok memory)) × LooksAtStrangers finds root adopt (Err why))
+      → AnswersRoot finds root online nodes partition adopt (Err why)
+  answer_behind partition adopt Memory is free looks = tt
+  answer_behind partition adopt Taken is free looks = inr (is, inr (free, looks))
+  answer_behind partition adopt (Unlocked kind) is free looks = inr (is, inr (free, looks))
+  answer_behind partition adopt (Unread kind) is free looks = inr (is, inr (free, looks))
+  answer_behind partition adopt NoCpuset is free looks = inr (is, inr (free, looks))
+  answer_behind partition adopt OtherMachine is free looks = inr (is, inr (free, looks))
+  answer_behind partition adopt NoPartition is free looks = inr (is, inr (free, looks))
 
   -- no look behind the lock answers that another program has the root, or that it can't be locked
   partition_not_taken : (partition : Bool) → LooksAtPartition finds root partition (Err Taken) → ⊥
@@ -155,7 +173,7 @@ module _ (finds : List ℕ → Finding → Type 0) (root : List ℕ) (online nod
   partition_not_unlocked true kind look = look
 
   pub tells_behind : (partition adopt : Bool) (why : RootFault) (told : List Asked) → LooksAtMachine finds root online nodes partition (Err why)
-      → MachineTells finds root online nodes adopt (Err why) told → RootTells finds root online nodes adopt (Err why) (behind_lock finds root told)
+      → MachineTells finds root online nodes (Err why) told → RootTells finds root online nodes adopt (Err why) (behind_lock finds root told)
   tells_behind partition adopt Taken told (inl cant) tells = absurd cant
   tells_behind partition adopt Taken told (inr (has, inl cant)) tells = absurd cant
   tells_behind partition adopt Taken told (inr (has, inr (are, inl cant))) tells = absurd cant
@@ -170,3 +188,18 @@ module _ (finds : List ℕ → Finding → Type 0) (root : List ℕ) (online nod
   tells_behind partition adopt NoCpuset told looks tells = (told, tells, refl)
   tells_behind partition adopt OtherMachine told looks tells = (told, tells, refl)
   tells_behind partition adopt NoPartition told looks tells = (told, tells, refl)
+
+  -- the folders of a run before are looked for last, and nothing is told where that fails
+  pub strangers_tell : (adopt : Bool) (why : RootFault) → LooksAtStrangers finds root adopt (Err why) → RootTells finds root online nodes adopt (Err why) (behind_lock finds root [])
+  strangers_tell adopt Memory look = inr (inr refl)
+  strangers_tell adopt (Unread kind) look = inr refl
+  strangers_tell false Taken look = absurd look
+  strangers_tell true Taken look = absurd look
+  strangers_tell false (Unlocked kind) look = absurd look
+  strangers_tell true (Unlocked kind) look = absurd look
+  strangers_tell false NoCpuset look = absurd look
+  strangers_tell true NoCpuset look = absurd look
+  strangers_tell false OtherMachine look = absurd look
+  strangers_tell true OtherMachine look = absurd look
+  strangers_tell false NoPartition look = absurd look
+  strangers_tell true NoPartition look = absurd look

@@ -10,7 +10,7 @@ use Rattle.cpu_set.specs.Ids.{Ids}
 use Rattle.cpu_set.specs.declared.TheConstants.{CPU_LIMIT}
 use Rattle.cpu_list.specs.FirstFault.{first_fault}
 use Rattle.cpu_list.specs.ListText.{IsSetOf}
-use Rattle.cgroup_tree.specs.Asked.{Asked, Remark, Lacks, HasBesides, NoList, Holds, IsAbsent, Locked, Named, Told, done, refused}
+use Rattle.cgroup_tree.specs.Asked.{Asked, Stranger, Remark, Lacks, HasBesides, NoList, Holds, IsAbsent, Locked, Named, Told, done, refused}
 use Rattle.cgroup_tree.specs.Paths.{cpus_in_effect, partition_file, partition_line}
 use Rattle.cgroup_tree.specs.declared.difference.Difference.{Difference}
 use Rattle.cgroup_tree.specs.declared.difference.Difference.TheVariants as difference
@@ -18,11 +18,13 @@ use Rattle.cgroup_tree.specs.declared.fault.RootFault.{RootFault}
 use Rattle.cgroup_tree.specs.declared.fault.RootFault.TheVariants as root_fault
 
 -- what a look at a path may find: whether it is a folder; whether another program has it; what the file has, or none if it is
--- not there; the kind of error by which the look failed, or by which the system can't lock it
+-- not there; the folders in it, each with the CPUs that it holds; the kind of error by which the look failed, or by which the
+-- system can't lock it
 pub data Finding : Type 0 where
   IsFolder : Bool → Finding
   IsTaken : Bool → Finding
   Has : Option (List ℕ) → Finding
+  HasFolders : List Stranger → Finding
   Fails : ErrorKind → Finding
   CantLock : ErrorKind → Finding
 
@@ -167,15 +169,25 @@ module _ (finds : List ℕ → Finding → Type 0) (root : List ℕ) where
       ⊎ (IsFound cpus_in_effect (AreOnline online) × (LooksAtMems nodes (Err why)
       ⊎ (((memory : Ids) × LooksAtMems nodes (Ok memory)) × LooksAtPartition partition (Err why))))))
 
-  -- the nodes of a root that have memory, or why it is refused: the first of the looks that is against it; an allocation may
-  -- fail anywhere
-  abbrev pub AnswersRoot : (online nodes : Ids) → (partition : Bool) → Result Ids RootFault → Type 0
-  AnswersRoot online nodes partition (Ok memory) = finds root (IsFolder true) × finds root (IsTaken false) × LooksAtMachine online nodes partition (Ok memory)
-  AnswersRoot online nodes partition (Err root_fault.Memory) = ⊤
-  AnswersRoot online nodes partition (Err why) =
+  -- the last look, where folders of a run before may be there: which there are; else none is looked for
+  abbrev pub LooksAtStrangers : (adopt : Bool) → Result (List Stranger) RootFault → Type 0
+  LooksAtStrangers false (Ok strangers) = strangers ≡ []
+  LooksAtStrangers true (Ok strangers) = finds (root ++ group_folder) (HasFolders strangers)
+  LooksAtStrangers adopt (Err root_fault.Memory) = ⊤
+  LooksAtStrangers true (Err (root_fault.Unread kind)) = finds (root ++ group_folder) (Fails kind)
+  LooksAtStrangers adopt (Err why) = ⊥
+
+  -- the nodes of a root that have memory and the folders of a run before, or why it is refused: the first of the looks that is
+  -- against it; an allocation may fail anywhere
+  abbrev pub AnswersRoot : (online nodes : Ids) → (partition adopt : Bool) → Result (Ids × List Stranger) RootFault → Type 0
+  AnswersRoot online nodes partition adopt (Ok found) =
+      finds root (IsFolder true) × finds root (IsTaken false) × LooksAtMachine online nodes partition (Ok found.0) × LooksAtStrangers adopt (Ok found.1)
+  AnswersRoot online nodes partition adopt (Err root_fault.Memory) = ⊤
+  AnswersRoot online nodes partition adopt (Err why) =
       LooksAtFolder (Err why)
       ⊎ (finds root (IsFolder true) × (LooksAtLock {A = Unit {0}} (Err why)
-      ⊎ (finds root (IsTaken false) × LooksAtMachine online nodes partition (Err why))))
+      ⊎ (finds root (IsTaken false) × (LooksAtMachine online nodes partition (Err why)
+      ⊎ (((memory : Ids) × LooksAtMachine online nodes partition (Ok memory)) × LooksAtStrangers adopt (Err why))))))
 
 -- what is told of a difference
 abbrev pub remark_of : Difference → Remark
@@ -236,17 +248,17 @@ module _ (finds : List ℕ → Finding → Type 0) (root : List ℕ) where
   PartitionTells (Err root_fault.NoPartition) told = TellsPartition told
   PartitionTells answer told = told ≡ []
 
-  -- the folders of a run before are named, where they may be there
-  abbrev pub names_strangers : Bool → List Asked
-  names_strangers adopt = if adopt then done (Named (root ++ group_folder)) ∷ [] else []
-
   -- by the looks behind the lock
-  abbrev pub MachineTells : (online nodes : Ids) → (adopt : Bool) → Result Ids RootFault → List Asked → Type 0
-  MachineTells online nodes adopt (Ok memory) told = told ≡ names_strangers adopt
-  MachineTells online nodes adopt (Err root_fault.OtherMachine) told =
+  abbrev pub MachineTells : (online nodes : Ids) → Result Ids RootFault → List Asked → Type 0
+  MachineTells online nodes (Ok memory) told = told ≡ []
+  MachineTells online nodes (Err root_fault.OtherMachine) told =
       Tells cpus_in_effect (AreOthers online) online online told ⊎ Tells mems_in_effect (HaveOthers nodes) set.empty nodes told
-  MachineTells online nodes adopt (Err root_fault.NoPartition) told = TellsPartition told
-  MachineTells online nodes adopt (Err why) told = told ≡ []
+  MachineTells online nodes (Err root_fault.NoPartition) told = TellsPartition told
+  MachineTells online nodes (Err why) told = told ≡ []
+
+  -- the folders of a run before are named, where they may be there
+  abbrev pub names_strangers : (adopt : Bool) → List Stranger → List Asked
+  names_strangers adopt strangers = if adopt then done (Named (root ++ group_folder) strangers) ∷ [] else []
 
   -- it was kept from other programs, and then this was asked
   abbrev pub behind_lock : List Asked → List Asked
@@ -254,9 +266,10 @@ module _ (finds : List ℕ → Finding → Type 0) (root : List ℕ) where
 
   -- while a root was opened: it was kept from other programs, and what it has was told where it is another machine's or no
   -- partition root. The folders of a run before were named where it was taken. Nothing that changes a file was asked.
-  abbrev pub RootTells : (online nodes : Ids) → (adopt : Bool) → Result Ids RootFault → List Asked → Type 0
+  abbrev pub RootTells : (online nodes : Ids) → (adopt : Bool) → Result (Ids × List Stranger) RootFault → List Asked → Type 0
   RootTells online nodes adopt (Err root_fault.Taken) asked = asked ≡ refused (Locked root) ∷ []
   RootTells online nodes adopt (Err (root_fault.Unlocked kind)) asked = asked ≡ refused (Locked root) ∷ []
   RootTells online nodes adopt (Err root_fault.Memory) asked = (asked ≡ []) ⊎ (asked ≡ refused (Locked root) ∷ []) ⊎ (asked ≡ behind_lock [])
   RootTells online nodes adopt (Err (root_fault.Unread kind)) asked = (asked ≡ []) ⊎ (asked ≡ behind_lock [])
-  RootTells online nodes adopt answer asked = (told : List Asked) × MachineTells online nodes adopt answer told × (asked ≡ behind_lock told)
+  RootTells online nodes adopt (Ok found) asked = asked ≡ behind_lock (names_strangers adopt found.1)
+  RootTells online nodes adopt (Err why) asked = (told : List Asked) × MachineTells online nodes (Err why) told × (asked ≡ behind_lock told)

@@ -26,7 +26,7 @@ text_after (Written path line) file text = if bytes_eq path file then Some line 
 text_after (Compared path line) file text = text
 text_after (Locked path) file text = text
 text_after (Told path remark) file text = text
-text_after (Named path) file text = text
+text_after (Named path strangers) file text = text
 
 -- the text that a file has after these calls, the newest first, if files do what they answer
 unfoldable pub text_in : List Asked → List ℕ → Option (List ℕ)

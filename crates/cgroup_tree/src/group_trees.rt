@@ -1,10 +1,11 @@
 //! Where a cgroup tree is found, and what it has at the start.
 ghost use Rattle.std.specs.Prelude.{ℕ, Bool, List, [], ◌∷◌, MatchOption, MatchResult, false, option_map, true};
 ghost use Rattle.std.specs.IoError.{error_kind};
-ghost use Rattle.cgroup_tree.specs.Asked.{Asked, Asks, HandsOut, Locked, Named, TakesBack, Told, done, is_locked};
-ghost use Rattle.cgroup_tree.specs.Roots.{CantLock, Fails, Finding, FindsNoMore, Has, IsFolder, IsTaken, remark_of};
+ghost use Rattle.cgroup_tree.specs.Asked.{Asked, Asks, HandsOut, Locked, Named, TakesBack, Told, done, is_locked, named};
+ghost use Rattle.cgroup_tree.specs.Roots.{CantLock, Fails, Finding, FindsNoMore, Has, HasFolders, IsFolder, IsTaken};
+ghost use Rattle.cgroup_tree.specs.Roots.{remark_of};
 
-use crate::{Difference, GroupFiles};
+use crate::{Difference, GroupFiles, Stranger};
 use std::alloc::Global;
 use std::io;
 
@@ -73,7 +74,18 @@ pub trait GroupTrees {
     fn tell(&mut self, path: &str, difference: Difference<'_>)
         ensures { Asks asked self.old (done (Told path.now (remark_of difference.entry)) ∷ []) self.new };
 
-    /// Names to the operator each folder in this one.
-    fn name_folders(&mut self, alloc: Global, path: &str)
-        ensures { Asks asked self.old (done (Named path.now) ∷ []) self.new };
+    /// The folders in this one, and links to folders, each with the CPUs that its `cpuset.cpus` holds; none where this
+    /// is not there or is none. A folder without that file holds none, and one whose file has no list holds all that
+    /// there may be.
+    ///
+    /// # Errors
+    /// Those of the system, and an allocation failure.
+    fn strangers(&self, alloc: Global, path: &str) -> io::Result<Vec<Stranger>>
+        ensures { MatchResult result
+            (λ strangers. finds self.now path.now (HasFolders (named strangers.items)))
+            (λ error. finds self.now path.now (Fails (error_kind error))) };
+
+    /// Names to the operator these folders in this one, each with the CPUs that it holds.
+    fn name_strangers(&mut self, path: &str, strangers: &[Stranger])
+        ensures { Asks asked self.old (done (Named path.now (named strangers.now)) ∷ []) self.new };
 }

@@ -2,8 +2,8 @@
 ghost use Rattle.std.specs.Prelude.{◌≡◌, ⊤};
 
 use crate::shown::Shown;
-use crate::{Difference, GroupTrees, HostFiles};
-use cpu_list::print;
+use crate::{Difference, GroupTrees, HostFiles, Stranger};
+use cpu_list::{print, read};
 use cpu_set::{CPU_LIMIT, IdSet};
 use std::alloc::Global;
 use std::fs::{File, TryLockError};
@@ -69,6 +69,57 @@ impl<R: AllocGlobal + Eprint> HostTrees<'_, R> {
         }
     }
 }
+
+impl<R: Files + AllocGlobal + Eprint> HostTrees<'_, R> {
+    /// The folder of this name in another one, or a link to a folder, with the CPUs that it holds.
+    fn stranger_at(&self, alloc: Global, folder: &str, name: &str) -> io::Result<Option<Stranger>> {
+        let mut path = String::from_str(alloc, folder)?;
+        path.push('/')?;
+        path.push_str(name)?;
+        match fs::metadata(self.rt, path.as_str()) {
+            Ok(found) if found.is_dir() => {}
+            Err(error) if error.kind() != ErrorKind::NotFound => {
+                return Err(self.unread(path.as_str(), error));
+            }
+            _ => return Ok(None),
+        }
+        path.push_str(CPUS_FILE)?;
+        Ok(Some(Stranger {
+            name: String::from_str(alloc, name)?,
+            cpus: self.held_by(path.as_str())?,
+        }))
+    }
+
+    /// The CPUs that a file holds: none where it is not there, and all that there may be where it has no list.
+    fn held_by(&self, path: &str) -> io::Result<IdSet> {
+        match fs::read(self.rt, path) {
+            Ok(text) => match read(text.as_slice(), CPU_LIMIT) {
+                Ok(cpus) => Ok(cpus),
+                Err(_) => Ok(IdSet::empty().complement()),
+            },
+            Err(error) if error.kind() == ErrorKind::NotFound => Ok(IdSet::empty()),
+            Err(error) => Err(self.unread(path, error)),
+        }
+    }
+
+    /// Says on standard error that a folder is there, and which CPUs it keeps.
+    fn note_stranger(&self, path: &str, stranger: &Stranger) {
+        let (path, name) = (Shown(path), Shown(stranger.name.as_str()));
+        match print(self.rt.alloc(), &stranger.cpus) {
+            Ok(list) if !stranger.cpus.is_empty() => {
+                let _ = eprintln!(self.rt;
+                    "note: {path}/{name} is there and has to be adopted: until then no plan gives {list} to anybody, but for reserved CPUs"
+                );
+            }
+            _ => {
+                let _ = eprintln!(self.rt; "note: {path}/{name} is there and has to be adopted");
+            }
+        }
+    }
+}
+
+/// The file of a group that has the CPUs that it requests.
+const CPUS_FILE: &str = "/cpuset.cpus";
 
 /// How the text of a partition root begins whose load the scheduler does not balance.
 const ISOLATED: &str = "isolated";
@@ -153,22 +204,32 @@ impl<'a, R: Files<File = File> + AllocGlobal + Clock + Eprint + Clone + Drop> Gr
         }
     }
 
-    fn name_folders(&mut self, _alloc: Global, path: &str) {
-        let Ok(entries) = fs::read_dir(self.rt, path) else {
-            return;
+    fn strangers(&self, alloc: Global, path: &str) -> io::Result<Vec<Stranger>> {
+        let mut strangers = Vec::new(alloc);
+        let entries = match fs::read_dir(self.rt, path) {
+            Ok(entries) => entries,
+            Err(error) if matches!(error.kind(), ErrorKind::NotFound | ErrorKind::NotADirectory) =>
+                {
+                    return Ok(strangers);
+                }
+            Err(error) => return Err(self.unread(path, error)),
         };
         for entry in entries {
-            if let Ok(entry) = entry
-                && let Ok(kind) = fs::metadata(self.rt, entry.path())
-                && kind.is_dir()
-            {
-                let name = entry.file_name();
-                let _ = eprintln!(self.rt;
-                    "note: {}/{} is there and has to be adopted",
-                    Shown(path),
-                    Shown(&name)
-                );
+            match entry {
+                Ok(entry) => {
+                    if let Some(stranger) = self.stranger_at(alloc, path, entry.file_name())? {
+                        strangers.push(stranger)?;
+                    }
+                }
+                Err(error) => return Err(self.unread(path, error)),
             }
+        }
+        Ok(strangers)
+    }
+
+    fn name_strangers(&mut self, path: &str, strangers: &[Stranger]) {
+        for stranger in strangers {
+            self.note_stranger(path, stranger);
         }
     }
 }

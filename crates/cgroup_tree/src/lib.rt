@@ -42,7 +42,8 @@
 //!   the root's own `cpuset.cpus`.
 //! - `GroupTrees` has the list of all that was asked of trees. A root that is refused asks for no more than its lock
 //!   and what is told of it: which CPUs or nodes it lacks and has besides, or what its partition file has. One that is
-//!   taken asks for its lock, and with `--adopt` for the folders of a run before to be named (`RootTells`).
+//!   taken asks for its lock, and with `--adopt` for the folders of a run before to be named, with the CPUs that they
+//!   hold (`RootTells`). It answers these too.
 //! - How files were opened is part of their relation, with the folder that they are locked by. No call of theirs
 //!   changes it. So the lock is held from the opening until the files are taken back (`close`), which puts all that
 //!   they were asked for into the list of the trees.
@@ -72,6 +73,7 @@ mod room;
 mod root;
 mod shown;
 mod sited;
+mod stranger;
 mod telling;
 mod unasked;
 
@@ -86,4 +88,5 @@ pub use mirrored_kernel::MirroredKernel;
 pub use room::Room;
 pub use root::{OpenTree, RootOptions, open_tree};
 pub use sited::Sited;
+pub use stranger::Stranger;
 pub use unasked::Unasked;

@@ -1,5 +1,5 @@
 //! The file by which a group is a partition root, whose CPUs the kernel keeps all groups outside from.
-ghost use Rattle.std.specs.Prelude.{◌≡◌, ◌↔◌, ◌+◌, ◌≤◌, ◌++◌, IsTrue, length, true};
+ghost use Rattle.std.specs.Prelude.{◌≡◌, ◌↔◌, ◌+◌, ◌≤◌, ◌++◌, IsTrue, OnOk, length, true};
 ghost use Rattle.std.specs.String.{string_capacity};
 ghost use Rattle.cgroup_tree.specs.Asked.{Asks, AsksSome, Compared};
 ghost use Rattle.cgroup_tree.specs.Mirrored.{looked};
@@ -26,6 +26,7 @@ pub fn look_at_partition<T: GroupTrees>(
 ) -> Result<(), RootFault>
     ensures looks { LooksAtPartition (T.finds trees.old) root.now partition result }
     ensures tells { AsksSome T.asked trees.old (PartitionTells (T.finds trees.old) root.now result) trees.new }
+    ensures same { OnOk result (trees.new ≡ trees.old) }
 {
     if partition {
         look_at_file(alloc, trees, root)
@@ -38,6 +39,7 @@ pub fn look_at_partition<T: GroupTrees>(
 fn look_at_file<T: GroupTrees>(alloc: Global, trees: &mut T, root: &str) -> Result<(), RootFault>
     ensures looks { LooksAtPartition (T.finds trees.old) root.now true result }
     ensures tells { AsksSome T.asked trees.old (PartitionTells (T.finds trees.old) root.now result) trees.new }
+    ensures same { OnOk result (trees.new ≡ trees.old) }
 {
     let path = path_below(alloc, root, PARTITION_FILE)?;
     let Some(text) = trees.read(alloc, path.as_str())? else {

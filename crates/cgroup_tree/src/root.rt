@@ -1,19 +1,19 @@
 //! A tree is opened, and what its root has to be before that.
 ghost use Rattle.std.specs.Prelude.{◌≡◌, ◌≢◌, ◌↔◌, [], ◌∷◌, IfErr, IfOk, IsTrue, MatchOption, MatchResult, None, OnOk};
-ghost use Rattle.std.specs.Prelude.{List, if◌then◌else◌, string_bytes, true};
+ghost use Rattle.std.specs.Prelude.{List, string_bytes, true};
 ghost use Rattle.std.specs.FinSet as set;
 ghost use Rattle.std.specs.IoError.{error_kind};
 ghost use Rattle.cpu_set.specs.Ids.{Ids};
 ghost use Rattle.cpu_list.specs.FirstFault.{first_fault};
-ghost use Rattle.cgroup_tree.specs.Asked.{Asked, Asks, AsksSome, HandsOut, Locked, Named, done, is_made};
+ghost use Rattle.cgroup_tree.specs.Asked.{Asked, Asks, AsksSome, HandsOut, Locked, is_made, named};
 ghost use Rattle.cgroup_tree.specs.Roots.{AnswersRoot, CpusTell, FindsNoMore, IsListOf, IsLockFaultOf};
 ghost use Rattle.cgroup_tree.specs.Roots.{LooksAtControllers, LooksAtCpus, LooksAtFolder, LooksAtLock, LooksAtMachine};
 ghost use Rattle.cgroup_tree.specs.Roots.{LooksAtMems, MachineTells, MemsTell, RootTells, TellsOthers, TellsUnlessNone};
-ghost use Rattle.cgroup_tree.specs.Roots.{names_cpuset, remark_of};
+ghost use Rattle.cgroup_tree.specs.Roots.{LooksAtStrangers, names_cpuset, names_strangers, remark_of};
 
 use crate::partition::look_at_partition;
 use crate::paths::path_below;
-use crate::{Difference, GroupTrees, RootFault};
+use crate::{Difference, GroupTrees, RootFault, Stranger};
 use cpu_set::{CPU_LIMIT, IdSet};
 use std::alloc::Global;
 use std::io;
@@ -46,6 +46,8 @@ pub struct OpenTree<F> {
     pub root: String,
     /// The nodes that have memory.
     pub memory: IdSet,
+    /// The folders of a run before, where they may be there.
+    pub strangers: Vec<Stranger>,
     /// How it was opened.
     pub options: RootOptions,
     /// Its files.
@@ -53,8 +55,8 @@ pub struct OpenTree<F> {
 }
 
 /// The tree of this root, for a machine whose online CPUs and whose nodes are these. With `adopt` folders of a run
-/// before may be there, and each is named to the operator. Nothing was asked of its files, which keep other programs
-/// from the root as long as they live.
+/// before may be there, and each is named to the operator, with the CPUs that its file holds. Nothing was asked of its
+/// files, which keep other programs from the root as long as they live.
 ///
 /// # Errors
 /// In this order: [`RootFault::Unread`] where the root is no folder, [`RootFault::Taken`] or [`RootFault::Unlocked`],
@@ -68,12 +70,15 @@ pub fn open_tree<T: GroupTrees>(
     nodes: &IdSet,
     options: RootOptions,
 ) -> Result<OpenTree<T::Files>, RootFault>
-    // It answers the nodes that have memory, or the first look at the root that is against it (`AnswersRoot`). The six
-    // looks are whether it is a folder, whether another program has it, its controllers, its CPUs in effect, its nodes
-    // in effect and, with `partition`, whether it is a partition root.
+    // It answers the nodes that have memory and the folders of a run before, or the first look at the root that is
+    // against it (`AnswersRoot`). The looks are whether it is a folder, whether another program has it, its
+    // controllers, its CPUs in effect, its nodes in effect and, with `partition`, whether it is a partition root. The
+    // last one is which folders there are, with `adopt`.
     ensures answers { MatchResult result
-        (λ tree. AnswersRoot (T.finds trees.old) root.now online.now nodes.now options.partition (Ok tree.memory))
-        (λ why. AnswersRoot (T.finds trees.old) root.now online.now nodes.now options.partition (Err why)) }
+        (λ tree. AnswersRoot (T.finds trees.old) root.now online.now nodes.now options.partition options.adopt
+        (Ok (tree.memory, named tree.strangers.items)))
+        (λ why. AnswersRoot (T.finds trees.old) root.now online.now nodes.now options.partition options.adopt
+        (Err why)) }
     ensures root { IfOk result (λ tree. string_bytes tree.root ≡ root.now) }
     ensures options { IfOk result (λ tree. tree.options ≡ options) }
     // Nothing was asked of its files yet, which were opened as it is told to, and hold the root's own lock.
@@ -84,7 +89,8 @@ pub fn open_tree<T: GroupTrees>(
     // Of the trees nothing was asked but to keep other programs from this root and, with `adopt`, to name the folders
     // of a run before (`RootTells`). The files are handed out.
     ensures taken { IfOk result (λ tree. (asked : List Asked)
-        × RootTells (T.finds trees.old) root.now online.now nodes.now options.adopt (Ok tree.memory) asked
+        × RootTells (T.finds trees.old) root.now online.now nodes.now options.adopt
+        (Ok (tree.memory, named tree.strangers.items)) asked
         × HandsOut T.asked trees.old asked trees.new) }
     // If it is refused, nothing was asked but its lock and what is told of it (`RootTells`), and no files are handed
     // out.
@@ -95,17 +101,18 @@ pub fn open_tree<T: GroupTrees>(
     let text = String::from_str(alloc, root)?;
     let lock = lock_root(trees, root)?;
     let memory = memory_of(alloc, trees, root, online, nodes, options)?;
+    let strangers = strangers_of(alloc, trees, root, options.adopt)?;
     Ok(OpenTree {
         root: text,
         memory,
+        strangers,
         options,
         files: trees.files(lock, options.adopt),
     })
 }
 
 /// The nodes that have memory, of a machine whose online CPUs and whose nodes are these: those in effect at a root that
-/// is had, or all of them where that is not told. It is a partition root if it has to be. With `adopt` each folder that
-/// is there already is named to the operator.
+/// is had, or all of them where that is not told. It is a partition root if it has to be.
 fn memory_of<T: GroupTrees>(
     alloc: Global,
     trees: &mut T,
@@ -116,24 +123,38 @@ fn memory_of<T: GroupTrees>(
 ) -> Result<IdSet, RootFault>
     ensures looks { LooksAtMachine (T.finds trees.old) root.now online.now nodes.now options.partition result }
     ensures tells { AsksSome T.asked trees.old
-        (MachineTells (T.finds trees.old) root.now online.now nodes.now options.adopt result) trees.new }
+        (MachineTells (T.finds trees.old) root.now online.now nodes.now result) trees.new }
+    ensures same { OnOk result (trees.new ≡ trees.old) }
 {
     look_at_controllers(alloc, trees, root)?;
-    let group = path_below(alloc, root, GROUP)?;
     look_at_cpus(alloc, trees, root, online)?;
     let memory = look_at_mems(alloc, trees, root, nodes)?;
     look_at_partition(alloc, trees, root, options.partition)?;
-    name_strangers(alloc, trees, group.as_str(), options.adopt);
     Ok(memory)
 }
 
-/// Names the folders of a run before, where they may be there.
-fn name_strangers<T: GroupTrees>(alloc: Global, trees: &mut T, group: &str, adopt: bool)
-    ensures { Asks T.asked trees.old (if adopt then done (Named group.now) ∷ [] else []) trees.new }
+/// The folders of a run before, where they may be there. Each is named to the operator.
+fn strangers_of<T: GroupTrees>(
+    alloc: Global,
+    trees: &mut T,
+    root: &str,
+    adopt: bool,
+) -> Result<Vec<Stranger>, RootFault>
+    ensures looks { MatchResult result
+        (λ strangers. LooksAtStrangers (T.finds trees.old) root.now adopt (Ok (named strangers.items)))
+        (λ why. LooksAtStrangers (T.finds trees.old) root.now adopt (Err why)) }
+    ensures tells { MatchResult result
+        (λ strangers. Asks T.asked trees.old
+        (names_strangers (T.finds trees.old) root.now adopt (named strangers.items)) trees.new)
+        (λ why. trees.new ≡ trees.old) }
 {
-    if adopt {
-        trees.name_folders(alloc, group);
+    if !adopt {
+        return Ok(Vec::new(alloc));
     }
+    let group = path_below(alloc, root, GROUP)?;
+    let strangers = trees.strangers(alloc, group.as_str())?;
+    trees.name_strangers(group.as_str(), strangers.as_slice());
+    Ok(strangers)
 }
 
 fn look_at_folder<T: GroupTrees>(trees: &T, root: &str) -> Result<(), RootFault>

@@ -1,9 +1,2 @@
-pub mod CheckAnswers
-pub mod Leaves
 pub mod Named
-pub mod PlainWords
-pub mod ReadWords
-pub mod Rows
-pub mod RunWords
-pub mod Solutions
 pub mod Leaving

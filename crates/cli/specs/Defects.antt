@@ -4,7 +4,7 @@ use Rattle.clap.specs.Words.{Text}
 use Rattle.json_text.specs.Flaws.{IsFlawIn}
 use Rattle.machine.specs.declared.TheConstants.{MAX_BYTES}
 use Rattle.program_io.specs.ErrorLine.{error_line}
-use Rattle.cli.specs.Notes.{flaw_line}
+use Rattle.answers.specs.Notes.{flaw_line}
 use Rattle.cli.specs.declared.defect.Defect.{Defect}
 use Rattle.cli.specs.declared.defect.Defect.TheVariants.{TooLong, NoJson, NoObject, Unseen}
 

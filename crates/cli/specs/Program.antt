@@ -1,7 +1,7 @@
 -- What the program does: which bytes go to which stream, and its exit status.
 use Rattle.std.specs.Prelude.{◌≡◌, ◌⊎◌, ℕ, ◌-◌, ◌^◌, List, [], ◌++◌, Bool, Option, Some, None, Result, Ok, Err, unwrap_or}
 use Rattle.std.specs.declared.io.ErrorKind.{ErrorKind as SystemKind}
-use Rattle.cgroup_tree.specs.Asked.{Asked as FileCall, Asks, HandsBack, Opening}
+use Rattle.cgroup_tree.specs.Asked.{Asked as FileCall, Asks, HandsBack, Opening, Stranger}
 use Rattle.cgroup_tree.specs.Roots.{AnswersRoot, Finding, RootTells}
 use Rattle.cgroup_tree.specs.Site.{Site}
 use Rattle.cgroup_tree.specs.declared.RootOptions.{RootOptions}
@@ -19,20 +19,20 @@ use Rattle.runtime.specs.MirroredNodes.{BootsNot, site_of}
 use Rattle.runtime.specs.RuntimeState.{Told}
 use Rattle.script.specs.declared.running.TheConstants.{MOST_READS}
 use Rattle.script.specs.declared.fault.ScriptFault.{ScriptFault}
-use Rattle.cli.specs.Asked.{Asked, asked_for, check, list, run, slit, solve}
+use Rattle.command_line.specs.Asked.{Asked, asked_for, check, list, run, slit, solve}
 use Rattle.cli.specs.Defects.{defect_line}
-use Rattle.cli.specs.Mistakes.{mistakes}
-use Rattle.cli.specs.Named.{name_of, reads_named}
-use Rattle.cli.specs.Notes.{note_of, shown, standard_input, unread_line, unwritten_line}
+use Rattle.command_line.specs.Mistakes.{mistakes}
+use Rattle.answers.specs.Named.{name_of, reads_named}
+use Rattle.answers.specs.Notes.{note_of, shown, standard_input, unread_line, unwritten_line}
 use Rattle.program_io.specs.Pages.{TakesIfRoom, contents_of}
 use Rattle.program_io.specs.Readings.{Reading, Reads}
 use Rattle.cli.specs.Ready.{SetsUp, refusal_of}
 use Rattle.cli.specs.Roots.{IsNotRooted, root_line, root_note, unrooted_of}
 use Rattle.program_io.specs.RefusalLine.{refusal_line}
 use Rattle.cli.specs.RunAnswer.{Plays, PlaysMirrored, is_unread}
-use Rattle.cli.specs.Says.{Complains, Says}
-use Rattle.cli.specs.Tells.{Checks, Lists, Solves, Tabulates}
-use Rattle.cli.specs.declared.console.Console.{Console}
+use Rattle.answers.specs.Says.{Complains, Says}
+use Rattle.answers.specs.Tells.{Checks, Lists, Solves, Tabulates}
+use Rattle.answers.specs.declared.console.Console.{Console}
 use Rattle.program_io.specs.declared.fault.ReadFault.{ReadFault}
 use Rattle.program_io.specs.declared.refusal.Refusal.TheVariants as refusal
 use Rattle.cli.specs.declared.unready.Unready.{Unready}
@@ -66,10 +66,11 @@ module _ {W E : Type 0} (out : W → Option (List ℕ)) (err : E → Option (Lis
   Performs finds most n told script script' = (mid : Console W E) × (end : Result (Unit {0}) ScriptFault)
       × Plays finds most n told script script' (contents_of out old.out) (contents_of out mid.out) end × (mid.err ≡ old.err) × Finishes out err mid new status end
 
-  -- the script was run so over a node whose kernel's writes are made in files too, and this holds of what they were asked for
-  abbrev pub PerformsMirrored : {F : Type 0} → (F → Opening → List FileCall → Type 0) → Site → (List FileCall → Type 0) → (Text → Option Text → Type 0) → ℕ → NodeState → Told → Option (List ℕ) → Option (List ℕ) → Type 0
-  PerformsMirrored asked site Leaves finds most n told script script' = (mid : Console W E) × (end : Result (Unit {0}) ScriptFault)
-      × PlaysMirrored asked site Leaves finds most n told script script' (contents_of out old.out) (contents_of out mid.out) end × (mid.err ≡ old.err) × Finishes out err mid new status end
+  -- the script was run so over a node whose kernel's writes are made in files too, beside the folders of a run before; and this
+  -- holds of what the files were asked for
+  abbrev pub PerformsMirrored : {F : Type 0} → (F → Opening → List FileCall → Type 0) → Site → (List FileCall → Type 0) → (Text → Option Text → Type 0) → ℕ → NodeState → Told → List Stranger → Option (List ℕ) → Option (List ℕ) → Type 0
+  PerformsMirrored asked site Leaves finds most n told strangers script script' = (mid : Console W E) × (end : Result (Unit {0}) ScriptFault)
+      × PlaysMirrored asked site Leaves finds most n told strangers script script' (contents_of out old.out) (contents_of out mid.out) end × (mid.err ≡ old.err) × Finishes out err mid new status end
 
   -- one of the two files is refused
   abbrev pub Refuses : Text → Option Text → Unready → Type 0
@@ -85,9 +86,9 @@ module _ {W E : Type 0} (out : W → Option (List ℕ)) (err : E → Option (Lis
 
   -- the script was run over a new node of the machine, whose kernel's writes are made in this place too; or its group can't
   -- be made there, and no byte of the script was read. This holds of what the files were asked for.
-  abbrev pub ScriptsMirroredAt : {F : Type 0} → (F → Opening → List FileCall → Type 0) → Layout → Site → (List FileCall → Type 0) → (Text → Option Text → Type 0) → Told → Option (List ℕ) → Option (List ℕ) → Type 0
-  ScriptsMirroredAt asked m site Leaves finds told script script' =
-      ((n : NodeState) × Boots m n × PerformsMirrored asked site Leaves finds (2 ^ 64 - 1) n told script script')
+  abbrev pub ScriptsMirroredAt : {F : Type 0} → (F → Opening → List FileCall → Type 0) → Layout → Site → (List FileCall → Type 0) → (Text → Option Text → Type 0) → Told → List Stranger → Option (List ℕ) → Option (List ℕ) → Type 0
+  ScriptsMirroredAt asked m site Leaves finds told strangers script script' =
+      ((n : NodeState) × Boots m n × PerformsMirrored asked site Leaves finds (2 ^ 64 - 1) n told strangers script script')
       ⊎ ((error : OrMemory KernelFault) × BootsNot asked site m error Leaves × Says out err old new status (root_line (unrooted_of error)) 1 [] × (script' ≡ script))
 
   -- the files that may be opened under a name, the errors by which that may fail, and what the reading of one may answer
@@ -112,9 +113,9 @@ module _ {W E : Type 0} (out : W → Option (List ℕ)) (err : E → Option (Lis
       abbrev pub ScriptsMirrored : (Text → Option Text → Type 0) → Told → Option (List ℕ) → Option (List ℕ) → Text → Option Text → Text → RootOptions → Type 0
       ScriptsMirrored sees told script script' machine table root options =
           ((m : Layout) × SetsUp opens fails gives machine table (Ok m)
-          × (((memory : Ids) × AnswersRoot finds root m.online (nodes_of m) options.partition (Ok memory)
-          × ((opened : List FileCall) × RootTells finds root m.online (nodes_of m) options.adopt (Ok memory) opened
-          × ScriptsMirroredAt asked m (site_of m root memory options) (λ calls. HandsBack asked_of trees (calls ++ opened) trees') sees told script script'))
+          × (((found : Ids × List Stranger) × AnswersRoot finds root m.online (nodes_of m) options.partition options.adopt (Ok found)
+          × ((opened : List FileCall) × RootTells finds root m.online (nodes_of m) options.adopt (Ok found) opened
+          × ScriptsMirroredAt asked m (site_of m root found.0 options) (λ calls. HandsBack asked_of trees (calls ++ opened) trees') sees told found.1 script script'))
           ⊎ ((why : Unrooted) × IsNotRooted finds root options m why (λ calls. Asks asked_of trees calls trees') × RefusesRoot root why × (script' ≡ script))))
           ⊎ ((why : Unready) × SetsUp opens fails gives machine table (Err why) × Refuses machine table why × (script' ≡ script) × Unasked)
 

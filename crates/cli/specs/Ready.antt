@@ -5,11 +5,11 @@ use Rattle.machine.specs.Layout.{Layout}
 use Rattle.machine.specs.MachineOf.{machine_of, text_fault}
 use Rattle.machine.specs.declared.fault.MachineFault.TheVariants.{NotJson}
 use Rattle.slit.specs.Table.{Table}
-use Rattle.cli.specs.Answer.{AnswersInput}
+use Rattle.answers.specs.Answer.{AnswersInput}
 use Rattle.cli.specs.Defects.{IsDefectOf}
 use Rattle.program_io.specs.FaultRefusal.{read_refusal}
 use Rattle.program_io.specs.Readings.{IsUnopened, Reading}
-use Rattle.cli.specs.SlitAnswer.{IsTableOrRefusal}
+use Rattle.answers.specs.SlitAnswer.{IsTableOrRefusal}
 use Rattle.program_io.specs.declared.fault.ReadFault.{ReadFault}
 use Rattle.program_io.specs.declared.refusal.Refusal.{Refusal}
 use Rattle.program_io.specs.declared.refusal.Refusal.TheVariants as refusal

@@ -16,7 +16,7 @@ use Rattle.program_io.specs.ReadFaults.{IsTold}
 use Rattle.program_io.specs.RefusalLine.{refusal_line}
 use Rattle.program_io.specs.declared.fault.ReadFault.{ReadFault}
 use Rattle.program_io.specs.declared.refusal.Refusal.TheVariants as refusal
-use Rattle.cli.specs.Notes.{note_of}
+use Rattle.answers.specs.Notes.{note_of}
 use Rattle.cli.specs.declared.unrooted.Unrooted.{Unrooted}
 use Rattle.cli.specs.declared.unrooted.Unrooted.TheVariants as unrooted
 
@@ -37,7 +37,7 @@ unrooted_of (Fault fault) = unrooted.Kernel
 
 -- the root is not taken for this machine, by what was found of it; and this holds of what was asked of trees for that
 abbrev pub IsNotRooted : (List ℕ → Finding → Type 0) → Text → RootOptions → Layout → Unrooted → (List Asked → Type 0) → Type 0
-IsNotRooted finds root options m why Leaves = (fault : RootFault) × AnswersRoot finds root m.online (nodes_of m) options.partition (Err fault) × IsUnrooted fault why
+IsNotRooted finds root options m why Leaves = (fault : RootFault) × AnswersRoot finds root m.online (nodes_of m) options.partition options.adopt (Err fault) × IsUnrooted fault why
     × ((asked : List Asked) × RootTells finds root m.online (nodes_of m) options.adopt (Err fault) asked × Leaves asked)
 
 abbrev pub root_line : Unrooted → List ℕ

@@ -4,8 +4,8 @@ use Rattle.std.specs.IoError.{error_kind}
 use Rattle.std.specs.declared.io.Error.{Error}
 use Rattle.std.specs.declared.io.ErrorKind.TheVariants.{OutOfMemory}
 use Rattle.program_io.specs.RefusalLine.{refusal_line}
-use Rattle.cli.specs.Says.{Complains, Says}
-use Rattle.cli.specs.declared.console.Console.{Console}
+use Rattle.answers.specs.Says.{Complains, Says}
+use Rattle.answers.specs.declared.console.Console.{Console}
 use Rattle.program_io.specs.declared.refusal.Refusal.TheVariants.{Memory}
 
 -- what standard error says of words that are no text

@@ -5,11 +5,10 @@ ghost use Rattle.cli.specs.Configs.{IsConfigIn};
 ghost use Rattle.cli.specs.Program.{Does, Runs};
 ghost use Rattle.cli.specs.Start.{Stops};
 
-use crate::console::{Console, MISUSED, REFUSED, print_then_note};
-use crate::opens::Opens;
 use crate::program::run_program;
-use crate::words::Grammar;
+use answers::{Console, MISUSED, Opens, REFUSED, print_then_note};
 use cgroup_tree::GroupTrees;
+use command_line::Grammar;
 use program_io::{Input, Refusal};
 use std::alloc::Global;
 use std::io;

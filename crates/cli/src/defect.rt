@@ -1,9 +1,9 @@
 //! Why a machine file is no JSON object of its size.
 ghost use Rattle.std.specs.Prelude.{◌≡◌, Some};
 ghost use Rattle.cli.specs.Defects.{IsDefectOf, defect_line};
-ghost use Rattle.cli.specs.Notes.{note_text};
+ghost use Rattle.answers.specs.Notes.{note_text};
 
-use crate::note::Note;
+use answers::Note;
 use json_text::{Flaw, flaw_in};
 use machine::MAX_BYTES;
 use std::alloc::{AllocError, Global};

@@ -3,7 +3,7 @@ ghost use Rattle.std.specs.Prelude.{◌≡◌, IfOk, None, option_map, string_by
 ghost use Rattle.runtime.specs.Found.{IsFound};
 ghost use Rattle.cli.specs.Configs.{IsConfigIn, IsConfigOf, config_path};
 
-use crate::opens::Opens;
+use answers::Opens;
 use faults::OrMemory;
 use json_text::flaw_in;
 use program_io::{Input, ReadFault};

@@ -1,13 +1,10 @@
-//! The command line of numarun: the words that it is called with, every byte that it reads and every
-//! byte that it writes.
+//! What numarun does with the words that it is called with: every byte that it reads and every byte that it writes.
 //!
 //! To run scripts from a program of your own use `script` and `runtime`, which open no file and know no command
-//! line.
+//! line. The commands that only read one input are those of `answers`.
 //!
 //! # Proved
 //!
-//! - If the status is not the answer's, it is 1, and what was taken of the answer is a prefix of it. Standard error's
-//!   page has then taken the line that says so, whole if it has room for it, as an empty page has.
 //! - What an input's opening and reading may answer is a relation of the trait that it comes by (`Opens`, `Source`,
 //!   `Input`). The contracts take that relation as it is. So a body can't tell a fault that the opening or the reading
 //!   did not answer.
@@ -24,46 +21,22 @@
 //!   says. The writing calls behind that list are those by which the node began, and then those that the script's
 //!   lines stand for, line by line, in order and with their answers (`PlaysMirrored`). So nothing is asked behind
 //!   the script's last line.
-//! - The laws `check_spellings` and so on are plain spellings of each command, each with what it asks for and without a
-//!   mistake.
 #![tactic(auto)]
 
-mod answer;
 mod arguments;
-mod check;
-mod command_line;
-mod console;
 mod defect;
-mod distances;
 mod folders;
-mod list;
 mod mirroring;
-mod note;
-mod opens;
-mod printed;
 mod program;
 mod run;
-mod shown;
-mod solve;
-mod spellings;
 mod unready;
 mod unrooted;
-mod words;
 
+pub use answers::{Console, Disk};
 pub use arguments::start;
 pub use cgroup_tree::HostTrees;
-pub use check::do_check;
 pub use command_line::CommandLine;
-pub use console::Console;
-pub use distances::do_slit;
 pub use folders::Folders;
-pub use list::do_list;
 pub use mirroring::{Root, do_run_mirrored};
-pub use opens::{Disk, NamedFile, Opens};
 pub use program::run_program;
 pub use run::do_run;
-pub use solve::do_solve;
-pub use spellings::{
-    check_spellings, list_spellings, run_spellings, slit_spellings, solve_spellings,
-};
-pub use words::{Grammar, Words, parse};

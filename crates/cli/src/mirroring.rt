@@ -1,31 +1,31 @@
 //! `numarun run --cgroup`.
 ghost use Rattle.std.specs.Prelude.{◌≡◌, List, [], IfOk, MatchResult, option_map, string_bytes};
 ghost use Rattle.machine.specs.Nodes.{nodes_of};
-ghost use Rattle.cgroup_tree.specs.Asked.{Asked, Asks, Closes, HandsOut};
+ghost use Rattle.cgroup_tree.specs.Asked.{Asked, Asks, Closes, HandsOut, named};
 ghost use Rattle.cgroup_tree.specs.Roots.{AnswersRoot, RootTells};
 ghost use Rattle.cgroup_tree.specs.Site.{opening};
 ghost use Rattle.runtime.specs.MirroredNodes.{site_of};
 ghost use Rattle.cli.specs.Program.{ScriptsMirrored, ScriptsMirroredAt};
 ghost use Rattle.cli.specs.Roots.{IsNotRooted, root_note};
 ghost use Rattle.cli.specs.RunAnswer.{PlaysMirrored};
-ghost use Rattle.cli.specs.declared.note.Note.{Note};
-ghost use Rattle.cli.specs.Notes.{note_text};
+ghost use Rattle.answers.specs.declared.note.Note.{Note};
+ghost use Rattle.answers.specs.Notes.{note_text};
 
-use crate::console::{Console, REFUSED, print_then_note};
-use crate::note::Note;
-use crate::opens::Opens;
 use crate::run::{finish, refuse, set_up};
 use crate::unrooted::Unrooted;
+use answers::{Console, Note, Opens, REFUSED, print_then_note};
 use cgroup_tree::{
-    GroupFiles, GroupTrees, MirroredKernel, OpenTree, RootOptions, Sited, open_tree,
+    GroupFiles, GroupTrees, MirroredKernel, OpenTree, RootOptions, Sited, Stranger, open_tree,
 };
 use machine::Machine;
 use node::Node;
-use runtime::{Bundles, Runner, boot_mirrored, files_of, run_mirrored};
+use runtime::{Bundles, Runner, boot_mirrored, files_of};
 use script::ScriptFault;
 use std::alloc::Global;
 use std::io::{Read, Write};
 use std::marker::Brand;
+use std::mem;
+use strangers::{Guarded, run_mirrored};
 
 /// A cgroup v2 tree that a script is run in.
 #[derive(Clone, Copy)]
@@ -84,7 +84,7 @@ fn open_below<T: GroupTrees>(
 ) -> Result<OpenTree<T::Files>, Unrooted>
     ensures answers { MatchResult result
         (λ tree. AnswersRoot (T.finds trees.old) root.entry.path.now machine.now.online (nodes_of machine.now)
-        root.entry.options.partition (Ok tree.memory))
+        root.entry.options.partition root.entry.options.adopt (Ok (tree.memory, named tree.strangers.items)))
         (λ why. IsNotRooted (T.finds trees.old) root.entry.path.now root.entry.options machine.now why
         (λ calls. Asks T.asked trees.old calls trees.new)) }
     ensures root { IfOk result (λ tree. string_bytes tree.root ≡ root.entry.path.now) }
@@ -93,7 +93,7 @@ fn open_below<T: GroupTrees>(
         (record { adopt = tree.options.adopt; locked = string_bytes tree.root }) []) }
     ensures taken { IfOk result (λ tree. (opened : List Asked)
         × RootTells (T.finds trees.old) root.entry.path.now machine.now.online (nodes_of machine.now) root.entry.options.adopt
-        (Ok tree.memory) opened
+        (Ok (tree.memory, named tree.strangers.items)) opened
         × HandsOut T.asked trees.old opened trees.new) }
 {
     let (online, nodes) = (machine.boot_online(), machine.nodes());
@@ -108,7 +108,7 @@ fn open_below<T: GroupTrees>(
 fn run_mirrored_in<S: Sited, T: GroupTrees, B: Bundles + Drop, R: Read, W: Write, E: Write>(
     alloc: Global,
     machine: Machine,
-    tree: OpenTree<T::Files>,
+    mut tree: OpenTree<T::Files>,
     trees: &mut T,
     bundles: B,
     script: &mut R,
@@ -119,12 +119,20 @@ fn run_mirrored_in<S: Sited, T: GroupTrees, B: Bundles + Drop, R: Read, W: Write
         (record { adopt = tree.options.adopt; locked = string_bytes tree.root }) [] }
     ensures { ScriptsMirroredAt W.contents E.contents console.old console.new result T.Files.asked machine
         (site_of machine (string_bytes tree.root) tree.memory tree.options)
-        (λ calls. Closes T.asked trees.old calls trees.new) B.finds (B.told bundles)
+        (λ calls. Closes T.asked trees.old calls trees.new) B.finds (B.told bundles) (named tree.strangers.items)
         (R.remaining script.old) (R.remaining script.new) }
 {
+    let strangers = mem::replace(&mut tree.strangers, Vec::new(alloc));
     match boot_mirrored::<T::Files, S>(alloc, machine, tree) {
         Ok(node) => {
-            let (end, files) = play_mirrored(node, bundles, script, &mut console.out, u64::MAX);
+            let (end, files) = play_mirrored(
+                node,
+                bundles,
+                strangers,
+                script,
+                &mut console.out,
+                u64::MAX,
+            );
             trees.close(files);
             finish(end, console)
         }
@@ -141,16 +149,19 @@ fn run_mirrored_in<S: Sited, T: GroupTrees, B: Bundles + Drop, R: Read, W: Write
 fn play_mirrored<F: GroupFiles + Drop, S: Sited, B: Bundles + Drop, R: Read, W: Write>(
     node: Node<MirroredKernel<F, S>>,
     bundles: B,
+    strangers: Vec<Stranger>,
     script: &mut R,
     w: &mut W,
     most_reads: u64,
 ) -> (Result<(), ScriptFault>, F)
     ensures { PlaysMirrored F.asked S.site (F.asked result.1 (opening S.site)) B.finds most_reads node (B.told bundles)
-        (R.remaining script.old) (R.remaining script.new) (W.contents w.old) (W.contents w.new) result.0 }
+        (named strangers.items) (R.remaining script.old) (R.remaining script.new) (W.contents w.old) (W.contents w.new) result.0 }
 {
-    let mut runner = Runner::new(node, bundles);
-    let end = run_mirrored(&mut runner, script, w, most_reads);
-    (end, files_of(runner))
+    strangers::laws::scripts_within::<B>();
+    node.holds();
+    let mut guarded = Guarded::new(Runner::new(node, bundles), strangers);
+    let end = run_mirrored(&mut guarded, script, w, most_reads);
+    (end, files_of(guarded.into_runner()))
 }
 
 /// What standard error says of a root that another program has.

@@ -2,22 +2,19 @@
 ghost use Rattle.std.specs.Prelude.{[], map, option_map, string_bytes};
 ghost use Rattle.cgroup_tree.specs.Asked.{Asks};
 ghost use Rattle.clap.specs.Words.{kind_of};
-ghost use Rattle.cli.specs.Asked.{asked, run, word_bytes};
+ghost use Rattle.command_line.specs.Asked.{asked, run, word_bytes};
 ghost use Rattle.cli.specs.Configs.{IsConfigIn};
 ghost use Rattle.cli.specs.Program.{Does, ExplainsOrLacks, Runs};
 
-use crate::check::check_named;
-use crate::console::{Console, MISUSED, print_then_note};
-use crate::distances::slit_named;
 use crate::folders::Folders;
-use crate::list::do_list;
 use crate::mirroring::{Root, do_run_mirrored};
-use crate::opens::Opens;
 use crate::run::do_run;
-use crate::solve::solve_named;
-use crate::words::{Grammar, Words, parse};
+use answers::{
+    Console, MISUSED, Opens, check_named, do_list, print_then_note, slit_named, solve_named,
+};
 use cgroup_tree::{GroupTrees, RootOptions};
 use clap::Error;
+use command_line::{Grammar, Words, parse};
 use faults::OrMemory;
 use program_io::{Input, Refusal};
 use std::alloc::Global;

@@ -1,16 +1,15 @@
 //! `numarun run`.
 ghost use Rattle.std.specs.Prelude.{◌≡◌, IfErr, IfOk, option_map};
-ghost use Rattle.cli.specs.Notes.{note_text};
+ghost use Rattle.answers.specs.Notes.{note_text};
 ghost use Rattle.cli.specs.Program.{Finishes, Refuses, Scripts, note_in};
 ghost use Rattle.cli.specs.Ready.{IsBadTable, IsReady, IsTableIn, Readies, SetsUp};
 ghost use Rattle.cli.specs.RunAnswer.{Plays, is_unread};
 
-use crate::answer::answer_in;
-use crate::console::{Console, REFUSED, UNWRITTEN, print_then_note};
 use crate::defect::Defect;
-use crate::note::{Note, STANDARD_INPUT};
-use crate::opens::Opens;
 use crate::unready::Unready;
+use answers::{
+    Console, Note, Opens, REFUSED, STANDARD_INPUT, UNWRITTEN, answer_in, print_then_note,
+};
 use kernel_model::Kernel;
 use machine::{Machine, MachineFault};
 use node::Node;

@@ -1,5 +1,5 @@
 //! Why a script has no tree to run in.
-use crate::printed::Printed;
+use answers::Printed;
 use byte_output::put;
 use cgroup_tree::RootFault;
 use faults::OrMemory;

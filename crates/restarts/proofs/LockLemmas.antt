@@ -7,6 +7,7 @@ use Rattle.std.specs.Prelude.{◌⊎◌}
 use Rattle.std.specs.List.{AllByRecursion, list_any}
 use Rattle.std.specs.Str.{bytes_eq}
 use Rattle.cgroup_tree.specs.Asked.{Asked, Locked, done}
+use Rattle.cgroup_tree.specs.Roots.{Finding, names_strangers}
 use Rattle.restarts.specs.Locks.{Timed, is_by, calls_by, gets_lock, has_lock, LocksHold, BeginsLocked, IsFirst, RunsTakeTurns, RunsBeginLocked}
 
 same_bytes : (a : List ℕ) → bytes_eq a a ≡ true
@@ -106,6 +107,8 @@ oldest : (root : List ℕ) (these : List Asked) → BeginsLocked root (reverse (
 oldest root these =
     subst (BeginsLocked root) (sym (reverse-append these (done (Locked root) ∷ []))) (same_bytes root)
 
-pub runs_begin_locked : RunsBeginLocked
-runs_begin_locked root told later =
-    subst (λ (cs : List Asked). BeginsLocked root (reverse cs)) (append_assoc later told (done (Locked root) ∷ [])) (oldest root (later ++ told))
+pub runs_begin_locked : (finds : List ℕ → Finding → Type 0) → RunsBeginLocked finds
+runs_begin_locked finds root online nodes adopt found opened later tells =
+    let told : List Asked = names_strangers finds root adopt found.1 in
+    subst (λ (cs : List Asked). BeginsLocked root (reverse (later ++ cs))) (sym tells)
+    (subst (λ (cs : List Asked). BeginsLocked root (reverse cs)) (append_assoc later told (done (Locked root) ∷ [])) (oldest root (later ++ told)))

@@ -1,9 +1,11 @@
 -- Two runs that both keep a folder locked.
 -- From: flock(2), LOCK_EX.
-use Rattle.std.specs.Prelude.{◌≡◌, ◌⊎◌, ◌&&◌, ℕ, Bool, true, false, not, cond, List, [], ◌∷◌, ◌++◌, reverse}
+use Rattle.std.specs.Prelude.{◌≡◌, ◌⊎◌, ◌&&◌, ℕ, Bool, true, false, not, cond, List, [], ◌∷◌, ◌++◌, reverse, Ok}
 use Rattle.std.specs.List.{AllByRecursion, list_any}
 use Rattle.std.specs.Str.{bytes_eq}
-use Rattle.cgroup_tree.specs.Asked.{Asked, Deed, Locked, done}
+use Rattle.cpu_set.specs.Ids.{Ids}
+use Rattle.cgroup_tree.specs.Asked.{Asked, Deed, Locked, Stranger}
+use Rattle.cgroup_tree.specs.Roots.{Finding, RootTells}
 
 -- a call, and which of two runs made it
 abbrev pub Timed : Type 0
@@ -57,7 +59,9 @@ RunsTakeTurns =
     (root : List ℕ) (calls : List Timed) → BeginsLocked root (calls_by true calls) → BeginsLocked root (calls_by false calls) → LocksHold root [] calls
     → IsFirst true calls ⊎ IsFirst false calls
 
--- a run whose root was taken begins with its lock, whatever was told behind that and whatever it asks of the files then: the
--- newest call stands first in these lists (`RootTells`, `behind_lock`)
-abbrev pub RunsBeginLocked : Type 0
-RunsBeginLocked = (root : List ℕ) (told later : List Asked) → BeginsLocked root (reverse (later ++ (told ++ done (Locked root) ∷ [])))
+-- a run whose root was taken begins with its lock, whatever it asks of the files behind what the root was opened by: the newest
+-- call stands first in these lists
+abbrev pub RunsBeginLocked : (List ℕ → Finding → Type 0) → Type 0
+RunsBeginLocked finds =
+    (root : List ℕ) (online nodes : Ids) (adopt : Bool) (found : Ids × List Stranger) (opened later : List Asked)
+    → RootTells finds root online nodes adopt (Ok found) opened → BeginsLocked root (reverse (later ++ opened))

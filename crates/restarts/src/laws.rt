@@ -9,6 +9,8 @@ ghost use Rattle.restarts.specs.Restarts.{PlacesWriteOwn, RestartsGoOn};
 ghost use Rattle.restarts.specs.Taking.{NoneIsRefused, OnlyPinnedSince, RebalancesGoOn, TriesRestart};
 ghost use Rattle.restarts.specs.Worked.{folder, in_turn, lock, write};
 
+use cgroup_tree::GroupTrees;
+
 /// What a run leaves, wherever it ends: each container that lives requests some CPUs of the machine. If one of two
 /// asked for CPUs of its own, they have none but reserved ones together. The kernel's states behind each single call
 /// are among these ends (`ends`).
@@ -60,10 +62,11 @@ pub fn files()
 }
 
 /// Of two runs that begin with the lock of one folder all calls of the one come before those of the other, if locks do
-/// what they answer (`turns`). Each run whose root is taken begins with it (`begin`).
-pub fn locks()
+/// what they answer (`turns`). Each run whose root is taken begins with it: what the root was opened by does, and so
+/// does that with whatever was asked behind it (`begin`).
+pub fn locks<T: GroupTrees>()
     ensures turns { RunsTakeTurns }
-    ensures begin { RunsBeginLocked }
+    ensures begin { (trees : T) → RunsBeginLocked (T.finds trees) }
 {}
 
 /// Worked rows: the definitions, evaluated.

@@ -22,6 +22,7 @@ module _ (finds : List ℕ → Option (List ℕ) → Type 0) where
   by_command told old (ask.start id) text new h = h
   by_command told old (ask.kill id signal) text new h = h
   by_command told old (ask.delete id) text new h = h
+  by_command told old (ask.forget id) text new h = h
   by_command told old (ask.state id) text new h = h
   by_command told old ask.list text new h = h
   by_command told old (ask.sets id) text new h = h

@@ -98,6 +98,7 @@ by_command sees (ask.update i b) event id bundle config r (c, answer, found, is)
     )
 by_command sees (ask.start i) event id bundle config r (answer, is) placing = absurd (other_event id bundle config r event placing (ap is_placing is))
 by_command sees (ask.kill i signal) event id bundle config r (answer, is) placing = absurd (other_event id bundle config r event placing (ap is_placing is))
+by_command sees (ask.forget i) event id bundle config r none placing = absurd none
 by_command sees (ask.delete i) event id bundle config r (answer, is) placing = absurd (other_event id bundle config r event placing (ap is_placing is))
 by_command sees (ask.state i) event id bundle config r (answer, is) placing = absurd (other_event id bundle config r event placing (ap is_placing is))
 by_command sees ask.list event id bundle config r (answer, is) placing = absurd (other_event id bundle config r event placing (ap is_placing is))

@@ -34,7 +34,7 @@ use Rattle.runtime.specs.RefusalLine.{refusal_line}
 use Rattle.runtime.specs.OutcomeTexts.{outcome_text, progress_line}
 use Rattle.runtime.specs.AnswerTexts.{of_either, of_kernel, of_kernel_fault, answer_text, done_line, pid_line, sets_line, listing_text, phase_line}
 use Rattle.runtime.specs.declared.refusal.Refusal.{Refusal}
-use Rattle.runtime.specs.declared.refusal.Refusal.TheVariants.{Memory, Node, BadSet, NoCpus, NoBundle}
+use Rattle.runtime.specs.declared.refusal.Refusal.TheVariants.{Memory, Node, BadSet, NoCpus, NoStranger, NoBundle}
 
 -- a container of the bundle whose config was found, with at most so many writes where the kernel refuses it; or there is no
 -- such bundle
@@ -145,6 +145,10 @@ abbrev pub AnswersCertificate : NodeState → List ℕ → NodeState → Type 0
 AnswersCertificate old text new =
     (r : Result Certificate NodeFault) × ShowsCertificate old r × (text ≡ answer_text text_of Node r) × (new ≡ old)
 
+-- a node alone knows of no group but its containers'
+abbrev pub AnswersForget : NodeState → List ℕ → NodeState → Type 0
+AnswersForget old text new = (text ≡ refusal_line NoStranger) × (new ≡ old)
+
 -- which text answers a command, and what the runtime is then: an answer that the node's own call may give, as its text
 abbrev pub AnswersBy : (List ℕ → Option (List ℕ) → Type 0) → NodeState → Asked → List ℕ → NodeState → Type 0
 AnswersBy finds old (ask.create id bundle) text new = AnswersCreate finds old id bundle text new
@@ -153,6 +157,7 @@ AnswersBy finds old (ask.update id bundle) text new = AnswersUpdate finds old id
 AnswersBy finds old (ask.start id) text new = AnswersStart old id text new
 AnswersBy finds old (ask.kill id signal) text new = AnswersKill old id signal text new
 AnswersBy finds old (ask.delete id) text new = AnswersDelete old id text new
+AnswersBy finds old (ask.forget id) text new = AnswersForget old text new
 AnswersBy finds old (ask.state id) text new = AnswersState old id text new
 AnswersBy finds old ask.list text new = AnswersList old text new
 AnswersBy finds old (ask.sets id) text new = AnswersSets old id text new

@@ -50,6 +50,7 @@ title_of refusal.Memory = memory_title
 title_of (refusal.Node fault) = node_title fault
 title_of (refusal.BadSet error) = codes "E102 BadSet"
 title_of refusal.NoCpus = codes "E103 NoCpus"
+title_of refusal.NoStranger = codes "E105 NoStranger"
 title_of refusal.NoBundle = codes "E111 NoBundle"
 
 -- what stands behind the name of a refusal

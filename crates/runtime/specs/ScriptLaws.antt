@@ -36,7 +36,7 @@ use Rattle.runtime.specs.OutcomeTexts.{outcome_text, progress_line}
 use Rattle.runtime.specs.RefusalLine.{refusal_line}
 use Rattle.runtime.specs.RuntimeState.{RuntimeState, Told}
 use Rattle.runtime.specs.declared.refusal.Refusal.{Refusal}
-use Rattle.runtime.specs.declared.refusal.Refusal.TheVariants.{Memory, Node, NoBundle}
+use Rattle.runtime.specs.declared.refusal.Refusal.TheVariants.{Memory, Node, NoStranger, NoBundle}
 
 -- the text of what a question was answered
 abbrev pub question_text : Question → List ℕ
@@ -83,6 +83,7 @@ IsFor sees (ask.update id bundle) event =
 IsFor sees (ask.start id) event = (answer : Result (Unit {0}) NodeFault) × (event ≡ Start id answer)
 IsFor sees (ask.kill id signal) event = (answer : Result (Unit {0}) NodeFault) × (event ≡ Kill id signal answer)
 IsFor sees (ask.delete id) event = (answer : Result (Unit {0}) NodeFault) × (event ≡ Delete id answer)
+IsFor sees (ask.forget id) event = ⊥
 IsFor sees (ask.state id) event = (answer : Result (String Global) (OrMemory NodeFault)) × (event ≡ Ask (State id answer))
 IsFor sees ask.list event = (answer : List (List ℕ × Status)) × (event ≡ Ask (ListAll answer))
 IsFor sees (ask.sets id) event = (answer : Result Sets NodeFault) × (event ≡ Ask (SetsOf id answer))
@@ -107,21 +108,23 @@ pub record IsCall (sees : Sees) (command : Asked) (old : NodeState) (text : List
 abbrev pub FindsNone : Sees → List ℕ → List ℕ → Type 0
 FindsNone sees bundle text = (text ≡ refusal_line Memory) ⊎ ((text ≡ refusal_line NoBundle) × sees bundle None)
 
--- so that a `create` or an `update` makes no call; nor does an `adopt` then, and where its list names no CPUs
+-- so that a `create` or an `update` makes no call; nor does an `adopt` then, and where its list names no CPUs. A `forget` makes
+-- none.
 abbrev pub MakesNone : Sees → Asked → List ℕ → Type 0
 MakesNone sees (ask.create id bundle) text = FindsNone sees bundle text
 MakesNone sees (ask.adopt id bundle list) text =
     FindsNone sees bundle text ⊎ ((why : Refusal) × NamesCpus list (Err why) × (text ≡ refusal_line why))
 MakesNone sees (ask.update id bundle) text = FindsNone sees bundle text
+MakesNone sees (ask.forget id) text = text ≡ refusal_line NoStranger
 MakesNone sees command text = ⊥
 
 -- a command is refused with no call
 abbrev pub IsNoCall : Sees → Asked → NodeState → List ℕ → NodeState → Type 0
 IsNoCall sees command old text new = MakesNone sees command text × (new ≡ old)
 
--- a command is answered by the text of the call or event that it asks for, also of a call that only reads. Two exceptions
--- make no call. The bundle of a `create`, an `adopt` or an `update` is not found, or an allocation for its config failed. The
--- list of an `adopt` names no CPUs.
+-- a command is answered by the text of the call or event that it asks for, also of a call that only reads. Three exceptions
+-- make no call. A `forget` is refused. The bundle of a `create`, an `adopt` or an `update` is not found, or an allocation for
+-- its config failed. The list of an `adopt` names no CPUs.
 abbrev pub CommandsAreCalls : (Told → Sees) → Type 0
 CommandsAreCalls sees = (old new : RuntimeState) (command : Asked) (text : List ℕ) → AnsweredWhere sees old command text new
     → IsCall (sees old.told) command old.node text new.node ⊎ IsNoCall (sees old.told) command old.node text new.node
@@ -232,6 +235,7 @@ is_call sees old (ask.update id bundle) text new (inr (Some config, found, (r, h
 is_call sees old (ask.start id) text new (r, h, e) = inl (record { event = Start id r; its = (r, refl); step = h; answer = e })
 is_call sees old (ask.kill id signal) text new (r, h, e) = inl (record { event = Kill id signal r; its = (r, refl); step = h; answer = e })
 is_call sees old (ask.delete id) text new (r, h, e) = inl (record { event = Delete id r; its = (r, refl); step = h; answer = e })
+is_call sees old (ask.forget id) text new h = inr h
 is_call sees old (ask.state id) text new (r, h, e, same) = inl (record { event = Ask (State id r); its = (r, refl); step = (h, same); answer = e })
 is_call sees old ask.list text new h = inl (record { event = Ask (ListAll (listing old)); its = (listing old, refl); step = (refl, h.1); answer = h.0 })
 is_call sees old (ask.sets id) text new (r, h, e, same) = inl (record { event = Ask (SetsOf id r); its = (r, refl); step = (h, same); answer = e })

@@ -43,7 +43,7 @@ module _ (sees : Told → Sees) where
   line_is_told old None text new h = ap trace_of h.1
   line_is_told old (Some line) text new h = request_is_told old (request_of (words_of line)) text new h
 
-  lines_are_told : (old : RuntimeState) (lines : List (List ℕ)) (text : List ℕ) (new : RuntimeState) (run : Runs (AnsweredWhere sees) old lines text new)
+  pub lines_are_told : (old : RuntimeState) (lines : List (List ℕ)) (text : List ℕ) (new : RuntimeState) (run : Runs (AnsweredWhere sees) old lines text new)
       → trace_of new ≡ lines_told sees old lines text new run ++ trace_of old
   lines_are_told old [] text new h = ap trace_of h.1
   lines_are_told old (line ∷ lines) text new (mid, first, more, answers, rest, is) =

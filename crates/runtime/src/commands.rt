@@ -1,7 +1,8 @@
 //! The commands that change something, each with the answer that is written.
 ghost use Rattle.std.specs.Prelude.{◌≡◌, Some};
 ghost use Rattle.script.specs.Ends.{Replies};
-ghost use Rattle.runtime.specs.Answered.{AnswersCreate, AnswersDelete, AnswersFound, AnswersKill, AnswersStart};
+ghost use Rattle.runtime.specs.Answered.{AnswersCreate, AnswersDelete, AnswersForget, AnswersFound, AnswersKill};
+ghost use Rattle.runtime.specs.Answered.{AnswersStart};
 ghost use Rattle.runtime.specs.Found.{IsSeen};
 
 use crate::answers::{put_done, put_pid};
@@ -73,6 +74,13 @@ pub fn kill<K: Kernel + Drop, W: Write>(
         Ok(()) => put_done(w),
         Err(fault) => Refusal::Node(fault).write(w),
     }
+}
+
+/// Answers `forget`: a node alone knows of no groups but its containers'.
+pub fn forget<K: Kernel + Drop, W: Write>(node: &Node<K>, w: &mut W) -> io::Result<()>
+    ensures { Replies (AnswersForget node.now) (W.contents w.old) (W.contents w.new) result node.now }
+{
+    Refusal::NoStranger.write(w)
 }
 
 /// Answers `delete`: `ok`, where the container is gone, or why it is not.

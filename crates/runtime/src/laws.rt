@@ -27,7 +27,7 @@ use node::{NodeFault, Outcome, Phase, Status};
 /// The text which answers a command is that of the call or event that it asks for. For a `create`, an `adopt` or an
 /// `update` that is the call with the config that is found of its bundle. It holds of calls that only read too. The
 /// exception is one of these that is refused with no call. Its bundle is not found, an allocation for its config
-/// failed, or the list of an `adopt` names no CPUs.
+/// failed, or the list of an `adopt` names no CPUs. A `forget` is refused with no call too.
 ///
 /// So the answered lines of a script are a list of calls and events of the node, at most one a line. What they print is
 /// the texts of these, with the refusals of the lines that make none.
@@ -140,6 +140,7 @@ pub fn worked()
     ensures not_free { refusal_line (Refusal.Node (NodeFault.NotFree 5)) ≡ codes "refused E104 NotFree 5\n" }
     ensures bad_set { refusal_line (Refusal.BadSet (record { at = 0; kind = ListErrorKind.Descending }))
         ≡ codes "refused E102 BadSet E12 0\n" }
+    ensures no_stranger { refusal_line Refusal.NoStranger ≡ codes "refused E105 NoStranger\n" }
     ensures bad_field { refusal_line (Refusal.Node (NodeFault.Config (ConfigFault.BadField Field.Quota)))
         ≡ codes "refused E60 BadField linux.resources.cpu.quota\n" }
     ensures total { first_line (Outcome.Plan 0) ≡ codes "plan total 0\n" }

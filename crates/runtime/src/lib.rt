@@ -37,6 +37,6 @@ mod updating;
 pub use booting::{FIRST_PID, NotBooted, boot, boot_mirrored};
 pub use bundle_list::BundleList;
 pub use bundles::Bundles;
-pub use mirrored::{files_of, is_mirrored, run_mirrored};
+pub use mirrored::{files_of, is_mirrored};
 pub use refusal::Refusal;
 pub use runner::Runner;

@@ -1,15 +1,11 @@
 //! Nodes whose kernel's writes are made in a cgroup tree.
 ghost use Rattle.cgroup_tree.specs.Site.{opening};
 ghost use Rattle.runtime.specs.MirroredNodes.{IsMirroredNode};
-ghost use Rattle.runtime.specs.Answered.{AnsweredBy};
-ghost use Rattle.script.specs.Ends.{EndsBy};
 
 use crate::bundles::Bundles;
 use crate::runner::Runner;
 use cgroup_tree::{GroupFiles, MirroredKernel, Sited};
 use node::Node;
-use script::{ScriptFault, run_script_within};
-use std::io::{Read, Write};
 
 /// What holds of each node over a mirrored kernel, after any of its calls, whatever they returned. All that was asked
 /// of the files is what its kernel's calls stand for, in their order. If files do what they answer, they have what is
@@ -21,30 +17,6 @@ pub fn is_mirrored<F: GroupFiles + Drop, S: Sited>(node: &Node<MirroredKernel<F,
     let kernel = node.kernel();
     kernel.is_mirrored();
     kernel.files_stand();
-}
-
-/// Runs a script, as [`run_script_within`] does, over a node whose kernel is mirrored.
-///
-/// # Errors
-/// Those of [`run_script_within`].
-pub fn run_mirrored<F: GroupFiles + Drop, S: Sited, B: Bundles + Drop, R: Read, W: Write>(
-    runner: &mut Runner<MirroredKernel<F, S>, B>,
-    script: &mut R,
-    w: &mut W,
-    most_reads: u64,
-) -> Result<(), ScriptFault>
-    ensures ends { EndsBy most_reads (AnsweredBy B.finds) (R.remaining script.old) (R.remaining script.new)
-        (W.contents w.old) (W.contents w.new)
-        runner.old result runner.new }
-    // It holds after any script, whatever its commands were and whichever writes failed. All that was asked of the
-    // files since the start is what the calls of the node's kernel stand for, in their order and place. If files do
-    // what they answer, each group's have what it requests, and that is safe. The writing calls among the kernel's are
-    // those of its trace, to which each line adds just those that it stands for (`laws::scripts_are_told`).
-    ensures mirrored { IsMirroredNode F.asked S.site runner.new.node }
-{
-    let end = run_script_within(runner, script, w, most_reads);
-    is_mirrored(runner.node());
-    end
 }
 
 /// The files that a runtime's kernel writes, once its scripts have ended.

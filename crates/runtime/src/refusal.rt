@@ -27,6 +27,8 @@ pub enum Refusal {
     BadSet(ListError),
     /// E103: the list of the CPUs that a container has already names none.
     NoCpus,
+    /// E105: no group that was there before the run has the id.
+    NoStranger,
     /// E111: there is no such bundle, or its config can't be read.
     NoBundle,
 }
@@ -41,6 +43,7 @@ impl Refusal {
             Refusal::Node(fault) => fault.title(),
             Refusal::BadSet(_) => "E102 BadSet",
             Refusal::NoCpus => "E103 NoCpus",
+            Refusal::NoStranger => "E105 NoStranger",
             Refusal::NoBundle => "E111 NoBundle",
         }
     }
@@ -52,7 +55,7 @@ impl Refusal {
         match self {
             Refusal::Node(fault) => put_node_arguments(fault, w),
             Refusal::BadSet(error) => put_list_error(error, w),
-            Refusal::Memory | Refusal::NoCpus | Refusal::NoBundle => Ok(()),
+            Refusal::Memory | Refusal::NoCpus | Refusal::NoStranger | Refusal::NoBundle => Ok(()),
         }
     }
 

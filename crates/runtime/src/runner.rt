@@ -1,5 +1,7 @@
 //! A node and its bundles, over which a script is run.
 ghost use Rattle.std.specs.Prelude.{◌≡◌};
+ghost use Rattle.kernel_model.specs.Cases.{ComesOnline, GoesOffline};
+ghost use Rattle.node.specs.Machine.{InKernel};
 ghost use Rattle.script.specs.Commands.{asked};
 ghost use Rattle.script.specs.Ends.{Replies};
 ghost use Rattle.runtime.specs.Answered.{AnsweredBy, AnswersBy};
@@ -7,12 +9,12 @@ ghost use Rattle.runtime.specs.Found.{IsSeen};
 
 use crate::adopting::adopt;
 use crate::bundles::Bundles;
-use crate::commands::{create, delete, kill, start};
+use crate::commands::{create, delete, forget, kill, start};
 use crate::events::{exit, fork, offline, online};
 use crate::plans::{begin, begin_directly, certificate, rebalance, rebalance_directly, step};
 use crate::queries::{list, phase, sets, state};
 use crate::updating::update;
-use kernel_model::Kernel;
+use kernel_model::{Kernel, KernelFault};
 use node::Node;
 use script::{Command, Target};
 use std::io;
@@ -51,6 +53,24 @@ impl<K: Kernel + Drop, B: Bundles + Drop> Runner<K, B> {
         &self.node
     }
 
+    /// A CPU goes offline, as by a line `offline CPU` whose answer nobody reads.
+    pub fn offline(&mut self, cpu: u32) -> Result<(), KernelFault>
+        ensures offline { GoesOffline self.old.node.kernel cpu result self.new.node.kernel }
+        ensures kernel { InKernel self.old.node self.new.node }
+        ensures told { self.new.told ≡ self.old.told }
+    {
+        self.node.offline(cpu)
+    }
+
+    /// A CPU comes online, as by a line `online CPU` whose answer nobody reads.
+    pub fn online(&mut self, cpu: u32) -> Result<(), KernelFault>
+        ensures online { ComesOnline self.old.node.kernel cpu result self.new.node.kernel }
+        ensures kernel { InKernel self.old.node self.new.node }
+        ensures told { self.new.told ≡ self.old.told }
+    {
+        self.node.online_cpu(cpu)
+    }
+
     /// The node, handed back once the runtime is done with.
     pub fn into_node(self) -> Node<K>
         ensures { result ≡ self.node }
@@ -85,6 +105,7 @@ fn dispatch<K: Kernel + Drop, B: Bundles, W: Write>(
         Command::Start { id } => start(node, id, w),
         Command::Kill { id, signal } => kill(node, id, signal, w),
         Command::Delete { id } => delete(node, id, w),
+        Command::Forget { .. } => forget(node, w),
         Command::State { id } => state(node, id, w),
         Command::List => list(node, w),
         Command::Sets { id } => sets(node, id, w),

@@ -2,3 +2,4 @@ pub mod Feeds
 pub mod Lines
 pub mod Replying
 pub mod Words
+mod CpuLineLemmas

@@ -11,6 +11,7 @@ pub data Asked : Type 0 where
   start : (id : List ℕ) → Asked
   kill : (id signal : List ℕ) → Asked
   delete : (id : List ℕ) → Asked
+  forget : (id : List ℕ) → Asked
   state : (id : List ℕ) → Asked
   list : Asked
   sets : (id : List ℕ) → Asked
@@ -32,6 +33,7 @@ asked (command.Update id bundle) = update id.now bundle.now
 asked (command.Start id) = start id.now
 asked (command.Kill id signal) = kill id.now signal.now
 asked (command.Delete id) = delete id.now
+asked (command.Forget id) = forget id.now
 asked (command.State id) = state id.now
 asked command.List = list
 asked (command.Sets id) = sets id.now

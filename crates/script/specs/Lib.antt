@@ -4,5 +4,6 @@ pub mod Lines
 pub mod Requests
 pub mod Runs
 pub mod TextLaws
+pub mod CpuLines
 pub mod Underway
 pub mod WrittenLemmas

@@ -55,6 +55,7 @@ abbrev pub short_command : List ℕ → List ℕ → Option Asked
 short_command name word =
     if bytes_eq name (codes "start") then option_map command.start (text_of word)
     else if bytes_eq name (codes "delete") then option_map command.delete (text_of word)
+    else if bytes_eq name (codes "forget") then option_map command.forget (text_of word)
     else if bytes_eq name (codes "state") then option_map command.state (text_of word)
     else if bytes_eq name (codes "sets") then option_map command.sets (text_of word)
     else if bytes_eq name (codes "fork") then option_map command.fork (number_of word)

@@ -89,9 +89,9 @@ none_either false o e = e
 no_short_command : (name word : List ℕ) → is_utf8 word ≡ false → short_command name word ≡ None
 no_short_command name word e =
     rw (no_text word e, no_number word e)
-    (none_either (bytes_eq name (codes "start")) _ (none_either (bytes_eq name (codes "delete")) _ (none_either (bytes_eq name (codes "state")) _ (none_either (bytes_eq name (codes "sets")) _
+    (none_either (bytes_eq name (codes "start")) _ (none_either (bytes_eq name (codes "delete")) _ (none_either (bytes_eq name (codes "forget")) _ (none_either (bytes_eq name (codes "state")) _ (none_either (bytes_eq name (codes "sets")) _
     (none_either (bytes_eq name (codes "fork")) _ (none_either (bytes_eq name (codes "exit")) _ (none_either (bytes_eq name (codes "offline")) _ (none_either (bytes_eq name (codes "online")) _
-    (none_either (bytes_eq name (codes "rebalance")) _ (none_either (bytes_eq name (codes "begin")) None refl))))))))))
+    (none_either (bytes_eq name (codes "rebalance")) _ (none_either (bytes_eq name (codes "begin")) None refl)))))))))))
 
 pub no_text_is_bad : NoTextIsBad
 no_text_is_bad line e = by_words (words_of line) (λ h. let t : true ≡ false = sym (is_utf8-from_IsUtf8 line (words_are_texts line h)) ∙ e in let f : ⊥ = cc in f)

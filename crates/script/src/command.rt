@@ -31,6 +31,10 @@ pub enum Command<'a> {
     Delete {
         id: &'a str,
     },
+    /// Let go of a group that was there before the run and is no container's: its CPUs count again.
+    Forget {
+        id: &'a str,
+    },
     /// Tell the container's state.
     State {
         id: &'a str,

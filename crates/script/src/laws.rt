@@ -1,6 +1,7 @@
 //! Which lines are refused, and the limits of a script: laws over the definitions alone. Nothing here runs.
 ghost use Rattle.std.specs.Prelude.{◌≡◌, true, false, codes};
 ghost use Rattle.script.specs.Commands as command;
+ghost use Rattle.script.specs.CpuLines.{CpuLinesAreRead};
 ghost use Rattle.script.specs.Lines.{words_of};
 ghost use Rattle.script.specs.Requests.{request_of, nothing, bad, asks};
 ghost use Rattle.script.specs.TextLaws.{NoTextIsBad};
@@ -11,6 +12,11 @@ use crate::running::{MOST_READS, PIECE};
 /// A line that is not UTF-8 is refused.
 pub fn no_text_is_bad()
     ensures { NoTextIsBad }
+{}
+
+/// A line that a program writes for a CPU that goes offline or comes online is read as that.
+pub fn cpu_lines()
+    ensures { CpuLinesAreRead }
 {}
 
 /// A script has at most 1,000,000 reads to come to its end, each of 8,192 bytes at most. A line of it has at most 8,192
@@ -35,6 +41,8 @@ pub fn worked()
         ≡ asks (command.create (codes "web") (codes "images/web")) }
     ensures three_texts { request_of (words_of (codes "adopt web b 2-3,6"))
         ≡ asks (command.adopt (codes "web") (codes "b") (codes "2-3,6")) }
+    ensures forgets { request_of (words_of (codes "forget web")) ≡ asks (command.forget (codes "web")) }
+    ensures forgets_none { request_of (words_of (codes "forget")) ≡ bad }
     ensures too_few { request_of (words_of (codes "create web")) ≡ bad }
     ensures too_many { request_of (words_of (codes "list web")) ≡ bad }
     ensures leading_zeros { request_of (words_of (codes "exit 007")) ≡ asks (command.exit 7) }

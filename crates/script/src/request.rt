@@ -65,6 +65,7 @@ fn short_command<'a>(name: &str, word: &'a [u8]) -> Option<Command<'a>>
     match name {
         "start" => Some(Command::Start { id: text(word)? }),
         "delete" => Some(Command::Delete { id: text(word)? }),
+        "forget" => Some(Command::Forget { id: text(word)? }),
         "state" => Some(Command::State { id: text(word)? }),
         "sets" => Some(Command::Sets { id: text(word)? }),
         "fork" => Some(Command::Fork {

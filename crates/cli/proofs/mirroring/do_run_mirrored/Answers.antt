@@ -1,6 +1,6 @@
 -- The script was run in the tree, or its group can't be made, or the root or a file is refused.
 use Rattle.std.proofs.Common.{◌++◌, inl, inr, refl}
-use Rattle.cgroup_tree.specs.Asked.{Closes, HandsBack}
+use Rattle.cgroup_tree.specs.Asked.{Closes, HandsBack, named}
 use Rattle.runtime.specs.MirroredNodes.{site_of}
 use Rattle.cli.proofs.Leaving.{behind, leaves_more}
 use Rattle.cli.proofs.mirroring.do_run_mirrored.Goals as goal
@@ -15,7 +15,7 @@ returns-in-Ok-open_below g c =
       c.in-Ok.found,
       c.in-Ok.ensures,
       inl (
-        tree.tree.memory,
+        (tree.tree.memory, named tree.tree.strangers.items),
         tree.ensures.answers,
         (
           opened.0,
@@ -24,7 +24,7 @@ returns-in-Ok-open_below g c =
               (λ calls. Closes g.T.GroupTrees.asked mid calls ran.new.trees)
               (λ calls. HandsBack g.T.GroupTrees.asked c.args.trees.now (calls ++ opened.0) ran.new.trees)
               (behind g.T.GroupTrees.asked c.args.trees.now mid ran.new.trees opened.0 opened.2)
-              g.W.Write.contents g.E.Write.contents c.args.console.now ran.new.console ran.result c.in-Ok.found g.B.Bundles.finds (g.B.Bundles.told c.args.bundles)
+              g.W.Write.contents g.E.Write.contents c.args.console.now ran.new.console ran.result c.in-Ok.found g.B.Bundles.finds (g.B.Bundles.told c.args.bundles) (named tree.tree.strangers.items)
               (g.R.Read.remaining c.args.script.now) (g.R.Read.remaining ran.new.script)
               (rw (tree.ensures.root, tree.ensures.options) at ran.ensures),
         ),

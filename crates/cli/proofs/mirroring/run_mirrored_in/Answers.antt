@@ -1,7 +1,7 @@
 -- The script was run over the node, or there is none; and what the files were asked for is asked of trees.
 use Rattle.std.proofs.Common.{◌-◌, ◌^◌, inl, inr, refl}
 use Rattle.std.specs.Prelude.{string_bytes}
-use Rattle.cgroup_tree.specs.Asked.{Closes}
+use Rattle.cgroup_tree.specs.Asked.{Closes, named}
 use Rattle.cgroup_tree.specs.Site.{opening}
 use Rattle.program_io.specs.Pages.{contents_of}
 use Rattle.runtime.specs.MirroredNodes.{site_of}
@@ -22,9 +22,9 @@ returns-in-Ok g c =
         plays_more g.T.Files.GroupFiles.asked site (g.T.Files.GroupFiles.asked played.result.1 (opening site))
             (λ calls. Closes g.T.GroupTrees.asked a.trees.now calls c.close.new.self)
             (λ calls made before held. c.close.ensures (opening site) before calls held made)
-            g.B.Bundles.finds (2 ^ 64 - 1) c.in-Ok.node (g.B.Bundles.told a.bundles) (g.R.Read.remaining a.script.now) (g.R.Read.remaining played.new.script)
+            g.B.Bundles.finds (2 ^ 64 - 1) c.in-Ok.node (g.B.Bundles.told a.bundles) (named a.tree.strangers.items) (g.R.Read.remaining a.script.now) (g.R.Read.remaining played.new.script)
             (contents_of g.W.Write.contents a.console.now.out) (contents_of g.W.Write.contents played.new.w) played.result.0
-            (rw c.requires.site at played.ensures),
+            (rw (c.requires.site, c.replace-strangers.ensures.value) at played.ensures),
         refl,
         c.finish.ensures,
       ),

@@ -2,10 +2,10 @@
 use Rattle.std.proofs.Common.{◌≡◌, ◌∙◌, ℕ, Bor, List, ap, option_map, refl, subst}
 use Rattle.program_io.specs.Readings.{Reads}
 use Rattle.cli.proofs.Named.{name_of-or_hyphen}
-use Rattle.cli.specs.Asked.{word_bytes}
-use Rattle.cli.specs.Named.{name_of, reads_named}
-use Rattle.cli.specs.Notes.{shown}
-use Rattle.cli.specs.Tells.{Checks, Solves}
+use Rattle.command_line.specs.Asked.{word_bytes}
+use Rattle.answers.specs.Named.{name_of, reads_named}
+use Rattle.answers.specs.Notes.{shown}
+use Rattle.answers.specs.Tells.{Checks, Solves}
 use Rattle.cli.proofs.program.dispatch.Goals as goal
 
 pub returns-in-Check : goal.returns-in-Check

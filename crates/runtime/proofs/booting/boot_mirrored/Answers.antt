@@ -31,8 +31,8 @@ returns-in-Ok-new-clause-boots g c =
       c.in-Ok-new.ensures.opened,
     )
 
-pub returns-in-Err-clause-err : goal.returns-in-Err-clause-err
-returns-in-Err-clause-err g c =
+pub returns-clause-err : goal.returns-clause-err
+returns-clause-err g c =
     let made = c.new-kernel.result in
     let m = c.args.machine in
     let refused = c.in-Err.not_opened.kernel in

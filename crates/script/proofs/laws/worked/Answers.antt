@@ -34,5 +34,8 @@ returns-clause-three_texts c = rw (is_text (codes "adopt") refl, is_text (codes 
 pub returns-clause-leading_zeros : goal.returns-clause-leading_zeros
 returns-clause-leading_zeros c = rw (is_text (codes "exit") refl) refl
 
+pub returns-clause-forgets : goal.returns-clause-forgets
+returns-clause-forgets c = rw (is_text (codes "forget") refl, is_text (codes "web") refl) refl
+
 pub returns-clause-largest : goal.returns-clause-largest
 returns-clause-largest c = rw (is_text (codes "offline") refl) refl

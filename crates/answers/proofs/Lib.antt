@@ -1,0 +1,4 @@
+pub mod CheckAnswers
+pub mod Named
+pub mod Rows
+pub mod Solutions

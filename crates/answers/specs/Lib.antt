@@ -1,0 +1,9 @@
+pub mod Answer
+pub mod CheckAnswer
+pub mod ListAnswer
+pub mod Named
+pub mod Notes
+pub mod Says
+pub mod SlitAnswer
+pub mod SolveAnswer
+pub mod Tells

@@ -1,0 +1,4 @@
+pub mod Leaves
+pub mod PlainWords
+pub mod ReadWords
+pub mod RunWords
