@@ -12,13 +12,14 @@ or else it is ROOT/numarun/ID.
 All events that are there are told before one plan is worked out. What runs already is adopted with the CPUs that its group
 requests. A container whose group is not there is told once it is; what was refused is told again when its config changes;
 a write that failed is made again, at growing pauses. A config or a limit that changes is told as it is. Who has no place runs on
-the pool until there is room. SIGTERM ends it between two commands, and what is left is taken up by the next one; --release gives
-back what was taken. Before all other words may stand `status`, which says what the running agent knows (see `status --help`), `release`
-in place of --release, `check-config`, which says whether an agent with the other words would begin, or `add-service`, which describes
-a service of systemd's as a container (see `add-service --help`). `@FILE` stands for the words in a file.
+the pool until there is room. SIGTERM ends it between two commands, or behind the hand-over that has begun; a second one ends it at
+once. What is left is taken up by the next one; --release gives back what was taken. Before all other words may stand `status`, which
+says what the running agent knows (see `status --help`), `release` in place of --release, `check-config`, which says whether an agent
+with the other words would begin, or `add-service`, which describes a service of systemd's as a container (see `add-service --help`).
+`@FILE` stands for the words in a file.
 
 The status is 1 where something is left undone: a line that is no event, a refusal, a shortage, a failed write. Where it is told to
-end by a signal, a container that has no room is nothing of that."""
+end by a signal, a container that has no room is nothing of that, nor is a plan that the next one makes."""
 
 from __future__ import annotations
 
@@ -35,17 +36,17 @@ from typing import Callable, Optional, Sequence, Tuple
 
 from .cgroups import EACH, Groups, read_file, set_in
 from .configs import LEAST, NEAR, PIN, STAY, Pin
-from .configuration import Parser, words_in
-from .cpus import NO_CPUS, Cpus, print_list, read_list
+from .configuration import Parser, words_in, words_told
+from .cpus import NO_CPUS, Cpus, counted, print_list, read_list
 from .decide import answer_to_hook, at_the_end, decide, say_pool_end
-from .doing import POOL_SECONDS, Ending, Hands, PoolCommand
+from .doing import POOL_SECONDS, Ending, Hands, PoolCommand, words_of_command
 from .hooks import STATUS, Hooks
 from .kept_files import allow_files
 from .ledger import Ledger, Settings, is_undone
 from .links import CPUS_IN_EFFECT, Links, locked
 from .log import logger
 from .notify import ENDS, READY, WORKS, notify, patience_of_watchdog
-from .partition import Layout
+from .partition import CPUS_FILE, Layout
 from .partition_files import PartitionFiles, layout_of, make
 from .pool import POOL_LEAST, is_pool_least, pool_least_of
 from .looking import Eyes
@@ -129,7 +130,7 @@ class Agent:
         command, fault = self.hands.pool.take()
         if command:
             self.hands.carry_out(say_pool_end(self.ledger, command, fault))
-        for line in at_the_end(self.ledger):
+        for line in at_the_end(self.ledger, self.ending.is_told):
             self.hands.do(line)
 
     def close(self) -> None:
@@ -139,7 +140,7 @@ class Agent:
 
 
 def parser_of_words() -> Parser:
-    parser = Parser(description=__doc__, epilog=EXAMPLE, formatter_class=argparse.RawDescriptionHelpFormatter, fromfile_prefix_chars="@")
+    parser = Parser(description=__doc__, epilog=EXAMPLE, formatter_class=argparse.RawDescriptionHelpFormatter)
     parser.add_argument("machine", metavar="MACHINE", nargs="?", help="the machine file")
     parser.add_argument("--version", action="store_true", help="say which numarun it works with, and end")
     parser.add_argument("--config", metavar="FILE", help="a file of options in TOML, as pool-least = \"10%%\" and watch = [\"/run/crun\"], of which "
@@ -153,6 +154,10 @@ def parser_of_words() -> Parser:
 
 def words_of(told: Sequence[str]) -> argparse.Namespace:
     parser = parser_of_words()
+    try:
+        told = words_told(told)
+    except Refused as why:
+        parser.error(str(why))
     words = parser.parse_args(told)
     if words.config is not None:
         before, machine = words_in(words.config, parser)
@@ -203,6 +208,14 @@ def pool_least_text(text: str) -> str:
     return text
 
 
+def command_text(text: str) -> str:
+    try:
+        words_of_command(text)
+    except ValueError as why:
+        raise argparse.ArgumentTypeError(f"{text!a} is no command: {why}") from None
+    return text
+
+
 def add_program(parser: argparse.ArgumentParser) -> None:
     group = parser.add_argument_group("what it works with")
     group.add_argument("--cgroup", metavar="ROOT", help="write in this cgroup v2 tree, as /sys/fs/cgroup")
@@ -245,7 +258,7 @@ def add_rest(parser: argparse.ArgumentParser) -> None:
     group.add_argument("--system", default="", metavar="LIST", help="with --partition: CPUs of the machine file that are left to the system")
     group.add_argument("--pool-least", type=pool_least_text, default=POOL_LEAST, metavar="N", help="newcomers wait rather than bring the pool below "
                        "so many CPUs, or this part of them; of a part two cores are kept at least (%(default)s)")
-    group.add_argument("--pool", metavar="COMMAND", help="run this with the pool's list behind it whenever that has changed")
+    group.add_argument("--pool", type=command_text, metavar="COMMAND", help="run this with the pool's list behind it whenever that has changed")
 
 
 def add_records(parser: argparse.ArgumentParser) -> None:
@@ -288,6 +301,12 @@ def partition_of(words: argparse.Namespace, machine: Machine, system: Cpus) -> T
     return layout, locks
 
 
+def given_up(layout: Optional[Layout], machine: Machine) -> Cpus:
+    """The CPUs that a partition of an agent before has, and that the machine file lacks by now. The containers leave them before it gives them up, as
+    those that are left to the system."""
+    return (set_in(read_file(f"{layout.path}/{CPUS_FILE}")) or NO_CPUS) - machine.present if layout else NO_CPUS
+
+
 def whole_of_tree(top: str, layout: Optional[Layout]) -> Cpus:
     """The CPUs that a group has which requests none, once there is no partition any more: those of the system too."""
     found = [set_in(read_file(f"{group}/{CPUS_IN_EFFECT}")) for group in ((top, layout.path) if layout else ())]
@@ -305,6 +324,8 @@ def made(words: argparse.Namespace, machine: Machine, work: str, ending: Ending,
     """An agent over this machine, with what one before has left."""
     system = system_of(words, machine)
     layout, locks = partition_of(words, machine, system)
+    leaving = given_up(layout, machine)
+    machine, system = Machine(words.machine, leaving) if leaving else machine, system | leaving
     links = Links(layout.path if layout else words.cgroup, work, locks) if words.cgroup else None
     groups = Groups(links.root, os.path.abspath(words.cgroup)) if links else None
     hooks = Hooks(os.path.join(work, "hooks")) if links else None
@@ -320,7 +341,7 @@ def made(words: argparse.Namespace, machine: Machine, work: str, ending: Ending,
     ledger = Ledger(settings, memory, taken=record.groups, renewed=record.renewed, before=links.before if links else {})
     hands = Hands(words.program, words.machine, words.slit, work, links, record, Certificates(words.certificates or "", words.keep),
                   words.textfile or "", PoolCommand(words.pool or ""), logger(), ending, words.patience)
-    hands.partition = files
+    hands.partition, hands.given_up = files, leaving
     return Agent(eyes, hands, ledger, hooks, ending, clock)
 
 
@@ -328,8 +349,9 @@ def check_config(words: argparse.Namespace) -> int:
     """Whether an agent with these words would begin: what is wrong with the machine file is refused as it would be then."""
     machine = Machine(words.machine)
     check_program(words.program)
-    print(f"{words.machine}: {len(machine.present)} CPUs on {len(machine.nodes)} nodes, reserved {print_list(machine.reserved)}, "
-          f"and {pool_least_of(words.pool_least, machine)} are left to the pool")
+    left = pool_least_of(words.pool_least, machine)
+    print(f"{words.machine}: {counted(len(machine.present))} on {counted(len(machine.nodes), 'node')}, reserved {print_list(machine.reserved)}, "
+          f"and {left} {'is' if left == 1 else 'are'} left to the pool")
     return 0
 
 

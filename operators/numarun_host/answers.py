@@ -18,10 +18,6 @@ SCALE = 65536  # a weight of version 2 is the distance times this, and one more 
 Words = Sequence[str]
 
 
-def counted(number: int, what: str = "CPU") -> str:
-    return f"{number} {what}{'s' * (number != 1)}"
-
-
 def cut(text: str, width: int) -> str:
     """As much of a text as has room; a list of CPUs ends behind a comma."""
     if len(text) <= width:

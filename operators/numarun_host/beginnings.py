@@ -9,8 +9,7 @@ from typing import Dict, Optional, Sequence, Tuple
 from .commands import CloseTrial, Steps
 from .configs import Demand
 from .cpus import NO_CPUS, Cpus
-from .ledger import Ledger
-from .room import Outcome, Trial, left_to_the_pool, pool_text
+from .room import Outcome, Trial, keep_certificate, left_to_the_pool, pool_text
 from .telling import Turn
 
 
@@ -25,59 +24,68 @@ class Comer:
 
 
 @dataclass(frozen=True)
+class Wait:
+    """Why one waits on the pool, and the file of the certificate that proves it, if there is one."""
+
+    why: str
+    certificate: str = ""
+
+
+@dataclass(frozen=True)
 class Beginning:
-    """The CPUs on which one begins, and why it waits there, on the pool, if it does."""
+    """The CPUs on which one begins, and why it waits there, if it does."""
 
     cpus: Cpus
-    waits: Optional[str]
+    waits: Optional[Wait]
 
 
 def beginnings(turn: Turn, comers: Sequence[Comer]) -> Steps[Dict[str, Beginning]]:
     """Where each of them begins by a plan. Nobody is named where there is none, nor who is refused, or gets no others than the reserved CPUs."""
-    ledger, waiting = turn.ledger, those_who_wait(turn.ledger, comers)
+    ledger, waiting = turn.ledger, those_who_wait(turn, comers)
     asking = [comer for comer in comers if comer.given.count is not None and comer.name not in waiting]
     outcome, short = yield from plan_of(turn, asking)
     if not outcome.is_plan:
         return {}
-    asking, waiting = [comer for comer in asking if comer.name not in short], {**waiting, **short}
+    asking, waits = [comer for comer in asking if comer.name not in short], {**{name: Wait(why) for name, why in waiting.items()}, **short}
     own = [container.cpus or NO_CPUS for container in ledger.containers.values() if container.state.is_pinned]
     own += [comer.cpus for comer in comers if comer.given.count is not None or not comer.cpus & ledger.reserved]
     pool = outcome.pool - (NO_CPUS.union(*own) - ledger.reserved)
     cpus = {comer.name: pool for comer in comers if comer not in asking}
     cpus.update((comer.name, outcome.holds[comer.name]) for comer in asking if comer.name in outcome.holds)
-    return {name: Beginning(has, waiting.get(name)) for name, has in cpus.items() if not has <= ledger.reserved}
+    return {name: Beginning(has, waits.get(name)) for name, has in cpus.items() if not has <= ledger.reserved}
 
 
-def plan_of(turn: Turn, asking: Sequence[Comer]) -> Steps[Tuple[Outcome, Dict[str, str]]]:
+def plan_of(turn: Turn, asking: Sequence[Comer]) -> Steps[Tuple[Outcome, Dict[str, Wait]]]:
     """The plan of a trial with those who ask for CPUs of their own, but for the youngest of those who are short together, and why these wait."""
     trial = Trial(turn)
     yield from trial.open()
     for comer in asking:
         yield from trial.begin(comer.name, comer.given, comer.cpus if comer.keeps else NO_CPUS)
     outcome = yield from trial.plan()
-    short: Dict[str, str] = {}
+    short: Dict[str, Wait] = {}
     while outcome.shortage:
         members = [comer for comer in asking if comer.name in outcome.shortage.members and not comer.keeps and comer.name not in short]
         if not members:
             break
-        short[members[-1].name] = outcome.shortage.text
+        short[members[-1].name] = Wait(outcome.shortage.text, (yield from keep_certificate(turn.ledger, trial=True)))
         yield from trial.end(members[-1].name)
         outcome = yield from trial.plan()
     yield CloseTrial()
     return outcome, short
 
 
-def those_who_wait(ledger: Ledger, comers: Sequence[Comer]) -> Dict[str, str]:
+def those_who_wait(turn: Turn, comers: Sequence[Comer]) -> Dict[str, str]:
     """The youngest of those that have no CPUs yet, as many as would bring the pool below what is left to it, and why they wait. One that asks for
     more CPUs than there are is refused, and does not wait."""
+    settings = turn.ledger.settings
     given = sum(comer.given.count or 0 for comer in comers if comer.keeps)
     waiting: Dict[str, str] = {}
-    for comer in comers if ledger.settings.pool_least else []:
+    for comer in comers if settings.pool_least else []:
         count = comer.given.count
-        if comer.keeps or count is None or count > len(ledger.settings.machine.present):
+        if comer.keeps or count is None or count > len(settings.machine.present):
             continue
-        if given + count > left_to_the_pool(ledger):
-            waiting[comer.name] = pool_text(ledger, given + count)
+        if given + count > left_to_the_pool(turn):
+            waiting[comer.name] = pool_text(turn, given + count)
         else:
             given += count
     return waiting

@@ -14,7 +14,7 @@ from .newcomers import refuse, requested_by_untold
 from .placing import demand_of
 from .script import Refused
 from .seen import Group
-from .sightings import are_known, is_same, lives, written
+from .sightings import are_known, is_same, is_updated, lives, written
 from .slices import is_below
 from .telling import Turn, ask, tell_update
 
@@ -73,14 +73,16 @@ def follow(turn: Turn, name: str, sighting: Sighting) -> Steps[bool]:
     if not ledger.is_over("update", "", turn.now):
         return False
     container = ledger.change(name, seen=sighting)
-    demand = demand_of(turn, sighting, container.home if sighting.listed == before.listed else None)
+    demand = demand_of(turn, sighting, None if sighting.named or sighting.listed != before.listed else container.home)
     if demand.config == (container.wanted or container.demand).config:
+        ledger.settle(Topic.DEMAND, name)
         return False
     if demand.count is None or container.given.count is None:
         return (yield from follow_shared(turn, container, demand))
     if demand == container.given:
         ledger.change(name, demand=demand, wanted=None)
-        ledger.settle(Topic.CONTAINER, name, Kind.FEWER, Kind.KEEPS)
+        ledger.settle(Topic.DEMAND, name)
+        ledger.settle(Topic.ROOM, name)
         return False
     ledger.change(name, wanted=demand)
     return True
@@ -97,8 +99,9 @@ def follow_shared(turn: Turn, container: Container, demand: Demand) -> Steps[boo
     if stopped:
         yield Say(f"stopped {ledger.title(name)}: it has no process, and its runtime keeps it: its CPUs are given back")
     state = State.WAITING if waits else State.STOPPED if stopped else State.SHARED
-    ledger.change(name, demand=demand, state=state, wanted=None, followed=container.seen.nodes)
-    ledger.settle(Topic.CONTAINER, name, Kind.REFUSED, Kind.WAITS, Kind.FEWER, Kind.KEEPS)
+    ledger.change(name, demand=demand, state=state, wanted=None, followed=container.seen.nodes, certificate="")
+    ledger.settle(Topic.DEMAND, name)
+    ledger.settle(Topic.ROOM, name)
     return True
 
 
@@ -151,9 +154,9 @@ def give_back_first(turn: Turn, container: Container) -> Steps[None]:
 
 
 def nodes_drifted(ledger: Ledger, container: Container, sighting: Sighting) -> bool:
-    """Whether somebody wrote nodes that are no limit which the container follows."""
-    nodes = sighting.group.nodes
-    if nodes is None or nodes == written(ledger, container.nodes):
+    """Whether somebody wrote nodes that are no limit which the container follows, as those of an update by its runtime are."""
+    nodes, named = sighting.group.nodes, sighting.named
+    if nodes is None or nodes == written(ledger, container.nodes) or nodes == named and named != container.seen.named:
         return False
     return not nodes or sighting.told.is_system or container.seen.nodes == nodes or not are_known(ledger, nodes)
 
@@ -175,8 +178,9 @@ def mend(turn: Turn, container: Container, sighting: Sighting) -> Steps[None]:
     reply = yield from ask(ledger, Tell(Verb.ADOPT, name, container.given.config, cpus))
     turn.strays.pop(name, None)
     if reply.fault is None:
-        ledger.change(name, seen=dataclasses.replace(container.seen, group=group, nodes=container.followed))
-        turn.there[name] = dataclasses.replace(sighting, nodes=container.followed)
+        nodes = container.followed or sighting.named
+        ledger.change(name, seen=dataclasses.replace(container.seen, group=group, nodes=nodes))
+        turn.there[name] = dataclasses.replace(sighting, nodes=nodes)
         if (Topic.DRIFT, name) not in ledger.unsaid:  # else it is said at the next look
             ledger.settle(Topic.DRIFT, name)
         return
@@ -192,10 +196,10 @@ def what_drifted(ledger: Ledger, container: Container, group: Group) -> str:
 
 
 def say_drift(ledger: Ledger, container: Container, sighting: Sighting, text: str) -> Steps[None]:
-    """Says that somebody wrote a group. By an update runc writes the list first, and then its state, by which the list is followed; so of
-    its containers that is said at the next look, unless the state has another list by then."""
-    key = Topic.DRIFT, container.name
-    if sighting.listed != container.seen.listed:
+    """Says that somebody wrote a group. By an update runc writes a list or nodes first, and then its state, by which these are followed; so of
+    its containers that is said at the next look, unless the state has others by then. Nodes for which there is no room yet are no drift."""
+    key, group = (Topic.DRIFT, container.name), sighting.group
+    if is_updated(container, sighting) or group.cpus == container.cpus and sighting.named and group.nodes == sighting.named:
         return
     if sighting.told.listed is None or key in ledger.unsaid:
         yield from report(ledger, *key, Kind.DRIFT, text)
@@ -205,23 +209,27 @@ def say_drift(ledger: Ledger, container: Container, sighting: Sighting, text: st
 
 
 def say_mended(turn: Turn, container: Container) -> Steps[None]:
-    """Of one that has again what it was given: says of a drift what was left for this look, if its runtime's state has the same list."""
+    """Of one that has again what it was given: says of a drift what was left for this look, if its runtime's state has the same
+    list and nodes."""
     ledger, key = turn.ledger, (Topic.DRIFT, container.name)
     problem = ledger.problems.get(key)
-    if problem and key in ledger.unsaid and turn.there[container.name].listed == container.seen.listed:
+    if problem and key in ledger.unsaid and not is_updated(container, turn.there[container.name]):
         yield Say(problem.line, Level.WARNING)
     ledger.settle(*key)
 
 
 def keep_lists(turn: Turn) -> None:
-    """Of whom its runtime gave another list, that is what its group requested, for --release and the next agent."""
+    """Of whom its runtime gave another list, or other nodes, that is what its group requested, for --release and the next agent."""
     ledger = turn.ledger
     for container in ledger.containers.values():
         seen, before = container.seen, ledger.taken.get(container.seen.group.path)
-        text = seen.told.listed
-        if not before or not text or before.inode != seen.group.inode or not (before.listed or seen.listed):
+        if not before or before.inode != seen.group.inode:
             continue
-        taken = dataclasses.replace(before, cpus=text, listed=bool(seen.listed))
+        taken, text, nodes = before, seen.told.listed, seen.told.nodes
+        if text and (before.listed or seen.listed):
+            taken = dataclasses.replace(taken, cpus=text, listed=bool(seen.listed))
+        if nodes and (seen.named or container.followed):
+            taken = dataclasses.replace(taken, nodes=nodes)
         if taken != before:
             ledger.taken[seen.group.path] = taken
             turn.unsaved = True

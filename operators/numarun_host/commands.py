@@ -2,7 +2,7 @@
 
 from __future__ import annotations
 
-from dataclasses import dataclass
+from dataclasses import dataclass, field
 from enum import Enum
 from typing import TYPE_CHECKING, Generator, Mapping, Optional, Tuple, TypeVar, Union
 
@@ -11,6 +11,8 @@ from .cpus import NO_CPUS, Cpus
 
 if TYPE_CHECKING:
     from .partition import Partition
+
+NAMELESS = "~"  # begins the name that numarun is given for a group of which no id is known, as no id begins
 
 
 class Verb(Enum):
@@ -31,12 +33,14 @@ class Level(Enum):
 
 @dataclass(frozen=True)
 class Start:
-    """Ends the run of numarun that there is, and begins one with these CPUs reserved and offline, in which these nodes have memory."""
+    """Ends the run of numarun that there is, and begins one with these CPUs reserved and offline, in which these nodes have memory, and which finds
+    just these groups there, by the names that they have for it."""
 
     reserved: Cpus
     offline: Cpus
     shown: Cpus
     memory: Cpus
+    strangers: Mapping[str, str] = field(default_factory=dict)
 
 
 @dataclass(frozen=True)
@@ -154,7 +158,7 @@ class Say:
 
 @dataclass(frozen=True)
 class KeepCertificate:
-    """Keeps a certificate, unless it is the last one again; the file is answered where it is another one."""
+    """Keeps a certificate, unless it is the last one again; its file is answered, and nothing of what is none."""
 
     lines: Tuple[str, ...]
 
@@ -186,7 +190,8 @@ Command = Union[Start, Ask, Tell, OpenTrial, CloseTrial, Link, Unlink, Drop, Wri
 @dataclass(frozen=True)
 class Answer:
     """The lines of numarun's answer, what it said on standard error, why the system refused what was to be done, whether the agent is told
-    to end, whether nothing was done, as what was to be replaced is not there any more, and what a look at the partition found."""
+    to end, whether nothing was done, as what was to be replaced is not there any more, what a look at the partition found, and whether it is to end
+    without another write."""
 
     lines: Tuple[str, ...] = ()
     notes: Tuple[str, ...] = ()
@@ -194,6 +199,7 @@ class Answer:
     ending: bool = False
     stale: bool = False
     partition: Optional[Partition] = None
+    at_once: bool = False
 
 
 T = TypeVar("T")

@@ -171,7 +171,11 @@ def limited(config: Config, limit: Optional[Limit], nodes: Optional[Cpus], cpus:
 
 def nodes_named(config: Config) -> Cpus:
     """The nodes of memory that a config names; none where it names none, or no list of any."""
-    text = at(config, *CPU, "mems")
+    return nodes_in(at(config, *CPU, "mems"))
+
+
+def nodes_in(text: object) -> Cpus:
+    """The nodes of a list; none where it is no list."""
     try:
         return read_list(text, "mems") if isinstance(text, str) else NO_CPUS
     except Refused:

@@ -1,5 +1,6 @@
-"""A file of options in TOML: each key is an option by its long name, a list has several values of one that may be said several times, and
-`machine` is the machine file."""
+"""Words that stand in files. In one of --config, which is TOML, each key is an option by its long name, a list has several values of one that
+may be said several times, and `machine` is the machine file. For `@FILE` stand the words in a file: of each line some, as a shell splits them,
+and a comment behind #."""
 
 from __future__ import annotations
 
@@ -8,23 +9,21 @@ import contextlib
 import importlib
 import re
 import shlex
-from typing import Any, Dict, List, NoReturn, Optional, Tuple
+from typing import Any, Dict, List, NoReturn, Optional, Sequence, Tuple
 
 from .script import Refused, read_text
 
 FILE_BYTES = 1 << 20
 MACHINE = "machine"
+AT = "@"    # begins a word that names a file of words
+NUL = "\0"  # no word of the system's has it
 OF_ONE_RUN = ("help", "version", "config", "release", "rounds")  # what no file can say
 
 
 class Parser(argparse.ArgumentParser):
-    """Of a file that `@FILE` names each line has some words, as a shell splits them, and a comment behind #. What a file of --config says is
-    refused by its place there."""
+    """What a file of --config says is refused by its place there."""
 
     place: Optional[str] = None
-
-    def convert_arg_line_to_args(self, arg_line: str) -> List[str]:
-        return shlex.split(arg_line, comments=True)
 
     def error(self, message: str) -> NoReturn:
         if self.place is not None:
@@ -42,6 +41,32 @@ class Parser(argparse.ArgumentParser):
             self.parse_args([word])
         finally:
             self.place = None
+
+
+def words_told(told: Sequence[str], inside: Tuple[str, ...] = ()) -> List[str]:
+    """These words, and in the place of each `@FILE` those in the file. `inside` are the files in which they stand."""
+    words: List[str] = []
+    for word in told:
+        path = word[len(AT):]
+        if not word.startswith(AT):
+            words.append(word)
+        elif path in inside:
+            raise Refused(f"{path}: it names itself")
+        else:
+            words += words_told(words_of_file(path), (*inside, path))
+    return words
+
+
+def words_of_file(path: str) -> List[str]:
+    words: List[str] = []
+    for number, line in enumerate(read_text(path, FILE_BYTES).splitlines(), 1):
+        try:
+            words += shlex.split(line, comments=True)
+        except ValueError as why:
+            raise Refused(f"{path}: line {number}: {why}") from None
+        if NUL in line:
+            raise Refused(f"{path}: line {number}: a NUL")
+    return words
 
 
 def read_toml(path: str) -> Dict[str, object]:
@@ -71,6 +96,8 @@ def words_in(path: str, parser: Parser) -> Tuple[List[str], Optional[str]]:
     machine = found.pop(MACHINE, None)
     if machine is not None and not isinstance(machine, str):
         raise Refused(f"{path}: {MACHINE}: no text")
+    if machine is not None and NUL in machine:
+        raise Refused(f"{path}: {MACHINE}: a NUL")
     for key, value in found.items():
         place = f"{path}: {key}"
         action = parser.action(key)
@@ -96,6 +123,8 @@ def words_for(key: str, value: object, action: argparse.Action, place: str) -> L
 
 def text_for(item: object, action: argparse.Action, place: str) -> str:
     if isinstance(item, str):
+        if NUL in item:
+            raise Refused(f"{place}: a NUL")
         return item
     if isinstance(item, (int, float)) and not isinstance(item, bool) and action.type is not None:
         return str(item)

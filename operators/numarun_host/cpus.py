@@ -38,6 +38,10 @@ def print_list(cpus: Iterable[int], empty: str = "-") -> str:
     return ",".join(str(a) if a == b else f"{a}-{b}" for a, b in ranges) or empty
 
 
+def counted(number: int, what: str = "CPU") -> str:
+    return f"{number} {what}{'s' * (number != 1)}"
+
+
 def mask_of(cpus: Iterable[int]) -> int:
     """A set as a whole number whose bit N is CPU N."""
     return sum(1 << cpu for cpu in cpus)

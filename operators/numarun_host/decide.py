@@ -3,7 +3,7 @@ it, and ends with what the agent knows by then. It opens no file, starts nothing
 
 from __future__ import annotations
 
-from typing import Dict, List, Optional, Set, Tuple, Union
+from typing import Dict, List, Optional, Sequence, Set, Tuple, Union
 
 from .changes import end_those_gone, follow_all, keep_lists, mend_all, undo_late_writes
 from .commands import Ask, Command, LeaveFigures, LeaveState, Level, SaveTaken, Say, Start, Steps
@@ -19,6 +19,7 @@ from .script import Refused
 from .seen import Folder, Look
 from .sightings import see_all
 from .slices import let_go
+from .strangers import ask_whether_withheld, let_go_of_strangers, shown_at_start
 from .telling import Turn, ask
 
 NO_FOLDER = ""  # of no folder's path
@@ -76,14 +77,18 @@ def work_through(ledger: Ledger, look: Look) -> Steps[None]:
 
 
 def settle_the_rest(turn: Turn) -> Steps[None]:
-    """Mends the partition, lets go of the system's groups that are above pinned containers, works out a plan, where one is due, and lifts
-    limits."""
+    """Mends the partition, lets go of the system's groups that are above pinned containers, and of strangers, works out a plan, where one is due, and
+    lifts limits."""
     ledger = turn.ledger
     yield from keep_partition(turn, is_planned=False)
     if ledger.has_tree:
         yield from let_go(turn)
+        if (yield from let_go_of_strangers(turn)):
+            ledger.due = True
+            ledger.end_pause("plan")
     if ledger.unmade and ledger.is_over("update", "", turn.now):
         ledger.due, ledger.unmade = True, False
+    ledger.due = ledger.due or ledger.untried and ledger.is_over("room", "", turn.now)
     if ledger.due and ledger.is_over("plan", "", turn.now) and not (yield from is_held_up(turn)):
         yield from arrange(turn)
     if ledger.has_tree:
@@ -155,18 +160,22 @@ def say_what_was_told(turn: Turn) -> Steps[None]:
     for line in look.wrong:
         yield Say(f"refused: {line}", Level.WARNING)
         ledger.wrong = True
-    if look.fault:
-        yield from report(ledger, Topic.LOOK, "", Kind.FAILED, f"{look.fault}; looks again")
-    else:
-        ledger.settle(Topic.LOOK)
-    for topic, of in [key for key in ledger.problems if key[0] is Topic.DOUBLE and key[1] not in {double.folder for double in look.doubles}]:
-        ledger.settle(topic, of)
+    settle_others(ledger, Topic.LOOK, [unread.path for unread in look.unread])
+    for unread in look.unread:
+        yield from report(ledger, Topic.LOOK, unread.path, Kind.FAILED, f"{unread.line}; looks again")
+    settle_others(ledger, Topic.DOUBLE, [double.folder for double in look.doubles])
     for double in look.doubles:
         text = f": its id is told by {double.other} too: {ledger.title(double.name)} {double.folder}"
         yield from report(ledger, Topic.DOUBLE, double.folder, Kind.REFUSED, text)
     yield from say_silent(ledger, look.folders)
     if look.pool_command:
         yield from say_pool_end(ledger, look.pool_command, look.pool_fault)
+
+
+def settle_others(ledger: Ledger, topic: Topic, left: Sequence[str]) -> None:
+    """Under this topic nothing is left undone but of these."""
+    for _, of in [key for key in ledger.problems if key[0] is topic and key[1] not in left]:
+        ledger.settle(topic, of)
 
 
 def say_pool_end(ledger: Ledger, command: str, fault: Optional[str]) -> Steps[None]:
@@ -186,7 +195,8 @@ def say_silent(ledger: Ledger, folders: Tuple[Folder, ...]) -> Steps[None]:
     for folder in folders:
         why = "no such folder yet" if not folder.there and not folder.by_runtime else ""
         if folder.entries and not folder.containers:
-            why = f"none of its {folder.entries} entries is a container, as {folder.stranger}"
+            several = f"none of its {folder.entries} entries is a container, as {folder.stranger}"
+            why = several if folder.entries > 1 else f"its 1 entry is no container, as {folder.stranger}"
         if why:
             kind = "there" if folder.there else "not there"
             count, before = ledger.silent.get(folder.path, (0, ""))
@@ -264,9 +274,12 @@ def start(turn: Turn, reserved: Cpus) -> Steps[bool]:
     ledger.known = frozenset(ledger.taken)
     ledger.containers, ledger.refused, ledger.blocking, ledger.switched, ledger.pauses = {}, {}, {}, {}, {}
     ledger.pool = ledger.tried = None
-    ledger.spent = ledger.unmade = False
+    ledger.spent = ledger.unmade = ledger.untried = False
     ledger.started = turn.unsaved = True
-    yield Start(reserved, machine.present - ledger.shown, ledger.shown, ledger.memory)
+    ledger.strangers = shown_at_start(turn)
+    groups = {name: stranger.path for name, stranger in ledger.strangers.items()}
+    yield Start(reserved, machine.present - ledger.shown, ledger.shown, ledger.memory, groups)
+    yield from ask_whether_withheld(ledger)
     yield from say_notes(turn)
     for event in [*off, *look.events]:
         yield from tell_event(ledger, event)
@@ -276,19 +289,28 @@ def start(turn: Turn, reserved: Cpus) -> Steps[bool]:
 # The end, and what hooks are answered.
 
 
-def at_the_end(ledger: Ledger) -> List[Command]:
-    return [*say_unsaid(ledger), *([LeaveState(status_of(ledger), ended=True)] if ledger.has_tree else [])]
+def at_the_end(ledger: Ledger, told_to_end: bool) -> List[Command]:
+    due = say_due(ledger) if told_to_end and ledger.due else []
+    return [*say_unsaid(ledger), *due, *([LeaveState(status_of(ledger), ended=True)] if ledger.has_tree else [])]
+
+
+def say_due(ledger: Ledger) -> List[Command]:
+    """Says what is left to the next agent."""
+    if ledger.tried is not None:
+        return [Say("note the hand-over to the last plan has not ended: the next agent takes it up", Level.NOTICE)]
+    return [Say("note a plan is due: the next agent begins with it", Level.NOTICE)]
 
 
 def answer_to_hook(ledger: Ledger, name: str) -> Optional[Dict[str, str]]:
     """What a hook is answered of a container; nothing as long as that is not decided."""
-    container, problem = ledger.containers.get(name), ledger.problems.get((Topic.CONTAINER, name))
+    container = ledger.containers.get(name)
     if container is None or container.state.is_bare:
-        if problem and problem.kind in (Kind.REFUSED, Kind.FAILED):
-            return {"answer": problem.kind.value, "text": problem.line}
-        return None
+        problems = [ledger.problems.get((topic, name)) for topic in (Topic.CONTAINER, Topic.DEMAND)]
+        problem = next((problem for problem in problems if problem and problem.kind in (Kind.REFUSED, Kind.FAILED)), None)
+        return {"answer": problem.kind.value, "text": problem.line} if problem else None
     if container.state is State.WAITING:
-        return {"answer": "no place", "text": f"no place {problem.line}"} if problem and (Topic.CONTAINER, name) not in ledger.unsaid else None
+        problem = ledger.problems.get((Topic.ROOM, name))
+        return {"answer": "no place", "text": f"no place {problem.line}"} if problem else None
     if ledger.due or container.state is State.ASKING or container.cpus is None:
         return None
     answer = "pinned" if container.state.is_pinned else "shared"

@@ -7,7 +7,7 @@ import re
 import xml.etree.ElementTree as xml
 from typing import Dict, List, Optional, Sequence, Set, Tuple
 
-from .cpus import CPUS, NODES, NO_CPUS, Cpus, print_list
+from .cpus import CPUS, NODES, NO_CPUS, Cpus, counted, print_list
 from .described import UNREACHABLE, Described, check_system, say
 from .script import Refused, read_bytes
 
@@ -130,7 +130,7 @@ class Topology:
 
     def table(self, indexes: List[int], values: List[int]) -> Distances:
         if len(values) != len(indexes) ** 2 or not indexes:
-            raise Refused(f"{self.path}: distances of nodes: {len(values)} values for {len(indexes)} nodes")
+            raise Refused(f"{self.path}: distances of nodes: {counted(len(values), 'value')} for {counted(len(indexes), 'node')}")
         told: Distances = {}
         for k, value in enumerate(values):
             here, there = indexes[k // len(indexes)], indexes[k % len(indexes)]

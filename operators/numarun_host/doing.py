@@ -16,10 +16,10 @@ from typing import Callable, Dict, List, Optional, Tuple, Type
 from .cgroups import LIMIT, limit_in, read_file
 from .commands import (Answer, Ask, CloseTrial, Command, Drop, KeepCertificate, LeaveFigures, LeaveState, Link, LookAtPartition, MakeGroup,
                        OpenTrial, RunPool, SaveTaken, Say, SetLimit, Start, Steps, T, Tell, Unlink, Verb, Write)
-from .cpus import print_list
+from .cpus import NO_CPUS, Cpus, print_list
 from .links import CPUS_IN_EFFECT, NODES_IN_EFFECT, Links
 from .log import say
-from .machine import parse_machine
+from .machine import add_cpus, parse_machine
 from .partition_files import PartitionFiles
 from .program import Run
 from .records import LAST_STATE, Certificates, leave_figures, leave_state
@@ -29,26 +29,40 @@ from .taken import Record, write_file, write_limit
 EFFECTIVE_NOTE = re.compile(r"\S+/cpuset\.cpus\.effective: ")  # the agent compares these itself
 POOL_SECONDS = 30  # that --pool's command has
 FAREWELL = 10.0    # seconds that numarun has for an answer where the agent is told to end
+LAST_STEPS = 8.0   # seconds that a hand-over which has begun has then
 
 
 class Ending:
-    """Whether the agent is told to end, and until when an answer is waited for then."""
+    """Whether the agent is told to end, until when an answer is waited for then, and whether it is to end at once: where it is told again, or
+    has taken long."""
 
     def __init__(self) -> None:
-        self.is_told, self.since = False, 0.0
+        self.is_told, self.is_told_again, self.since = False, False, 0.0
 
     def tell(self, *_: object) -> None:
-        self.is_told, self.since = True, self.since or time.monotonic()
+        self.is_told, self.is_told_again, self.since = True, self.is_told, self.since or time.monotonic()
+
+    @property
+    def is_at_once(self) -> bool:
+        return self.is_told_again or self.is_told and time.monotonic() >= self.since + LAST_STEPS
 
     def until(self) -> Optional[float]:
         return self.since + FAREWELL if self.is_told else None
+
+
+def words_of_command(text: str) -> List[str]:
+    """A command's words, as a shell splits them: a `ValueError` where they can't be split, or where a text has none."""
+    words = shlex.split(text)
+    if text and not words:
+        raise ValueError("it has no words")
+    return words
 
 
 class PoolCommand:
     """The command of --pool, of which one runs at a time; the last list is told once the one before has ended."""
 
     def __init__(self, words: str) -> None:
-        self.words = shlex.split(words)
+        self.words = words_of_command(words)
         self.next: Optional[str] = None
         self.process: Optional[subprocess.Popen[bytes]] = None
         self.command, self.until = "", 0.0
@@ -105,6 +119,7 @@ class Hands:
         self.run: Optional[Run] = None
         self.trial: Optional[Run] = None
         self.partition: Optional[PartitionFiles] = None
+        self.given_up: Cpus = NO_CPUS  # that the machine file lacks
         self.ways: Dict[Type[object], Callable[..., Answer]] = {
             Start: self.start, Ask: self.ask, Tell: self.tell, OpenTrial: self.open_trial, CloseTrial: self.close_trial, Link: self.link,
             Unlink: self.unlink, Drop: self.drop, Write: self.write, SetLimit: self.set_limit, SaveTaken: self.save_taken, Say: self.say,
@@ -140,7 +155,8 @@ class Hands:
             more = ["--cgroup", self.links.folder, "--adopt"]
             self.links.show(CPUS_IN_EFFECT, command.shown)
             self.links.show(NODES_IN_EFFECT, command.memory)
-        machine = parse_machine(self.machine)
+            self.links.leave(command.strangers)
+        machine = add_cpus(parse_machine(self.machine), self.given_up) if self.given_up else parse_machine(self.machine)
         machine.update(reserved=print_list(command.reserved), offline=print_list(command.offline, empty=""))
         with open(path, "w") as file:
             json.dump(machine, file)
@@ -149,7 +165,7 @@ class Hands:
         except Refused as why:
             raise Refused(str(why).replace(path, self.machine)) from None
         self.run.said()
-        return Answer(ending=self.ending.is_told)
+        return Answer(ending=self.ending.is_told, at_once=self.ending.is_at_once)
 
     def ask(self, command: Ask) -> Answer:
         return self.answer_of(command.line, command.trial)
@@ -166,8 +182,9 @@ class Hands:
         run = self.trial if trial else self.run
         assert run
         lines = tuple(run.ask(line))
-        notes = () if trial else tuple(self.note_of(note) for note in run.said())
-        return Answer(lines, tuple(note for note in notes if not EFFECTIVE_NOTE.match(note)), ending=self.ending.is_told)
+        said = () if trial else tuple(self.note_of(note) for note in run.said())
+        notes = tuple(note for note in said if not EFFECTIVE_NOTE.match(note))
+        return Answer(lines, notes, ending=self.ending.is_told, at_once=self.ending.is_at_once)
 
     def note_of(self, note: str) -> str:
         note = re.sub("^(error|note): ", "", note)

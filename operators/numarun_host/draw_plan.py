@@ -15,8 +15,8 @@ import argparse
 import html
 from typing import Dict, Iterable, List, NamedTuple, Optional, Sequence, Tuple, Union
 
-from .answers import LOCAL, Answers, Outcome, Plan, Shortage, counted, cut, cut_name, wrapped
-from .cpus import NO_CPUS, Cpus, print_list
+from .answers import LOCAL, Answers, Outcome, Plan, Shortage, cut, cut_name, wrapped
+from .cpus import NO_CPUS, Cpus, counted, print_list
 from .machine import Machine
 
 EXAMPLE = """example, from the top of the repository:
@@ -430,7 +430,7 @@ def draw_svg(machine: Machine, outcomes: Sequence[Outcome]) -> str:
     style, picture = Style(outcomes), Picture()
     views = views_of(machine, outcomes, style)
     room = (1000 if len(machine.present) <= 256 else 2100) * (0.64 if len(views) == 2 else 1)
-    picture.text(16, 28, 16, cut(machine.about or f"{len(machine.present)} CPUs", 90), ' font-weight="bold" fill="#000000"')
+    picture.text(16, 28, 16, cut(machine.about or counted(len(machine.present)), 90), ' font-weight="bold" fill="#000000"')
     bottom, left = 0.0, 16.0
     for view in views:
         side = Picture()

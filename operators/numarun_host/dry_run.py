@@ -18,9 +18,9 @@ import tempfile
 from dataclasses import dataclass
 from typing import Dict, List, Optional
 
-from .answers import Answers, Plan, counted
+from .answers import Answers, Plan
 from .configs import NEAR, Config, Pin, asked, cpus_allowed, housed, is_left_out, nodes_named, parse_text, shared, wish_of
-from .cpus import NO_CPUS, Cpus, print_list, read_list
+from .cpus import NO_CPUS, Cpus, counted, print_list, read_list
 from .devices import node_of_device
 from .explain import explain, laid_out
 from .homes import home_of, why_there

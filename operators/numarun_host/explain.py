@@ -16,8 +16,8 @@ from bisect import bisect_right
 from collections import deque
 from typing import Callable, Dict, Iterable, List, Optional, Sequence, Set, Tuple
 
-from .answers import LOCAL, Answers, Certificate, counted, cut, wrapped
-from .cpus import Cpus, cpus_of, mask_of, print_list, size
+from .answers import LOCAL, Answers, Certificate, cut, wrapped
+from .cpus import Cpus, counted, cpus_of, mask_of, print_list, size
 from .machine import Machine
 from .names import short
 
@@ -323,7 +323,7 @@ def allowed_more(room: Assignment, names: Sequence[str], rest: int) -> List[str]
 
 
 def few(lines: List[str]) -> List[str]:
-    return lines[:NAMED] + ([f"  .. and of {len(lines) - NAMED} others as well"] if lines[NAMED:] else [])
+    return lines[:NAMED] + ([f"  .. and of {counted(len(lines) - NAMED, 'other')} as well"] if lines[NAMED:] else [])
 
 
 def unoffered(machine: Machine, offered: Cpus) -> List[str]:

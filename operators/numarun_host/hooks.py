@@ -48,8 +48,9 @@ class Hooks:
         self.door.setblocking(False)
 
     def files(self) -> List[int]:
-        """What is to be looked at: it is ready where somebody comes or tells."""
-        return [self.door.fileno(), *(hook.fileno() for hook, (told, _) in self.waiting.items() if not told.endswith(b"\n"))]
+        """What is to be looked at: it is ready where somebody comes who is taken up, or tells."""
+        door = [self.door.fileno()] if len(self.waiting) < MOST else []
+        return [*door, *(hook.fileno() for hook, (told, _) in self.waiting.items() if not told.endswith(b"\n"))]
 
     def take(self) -> None:
         """Hears those who come, and what they tell."""

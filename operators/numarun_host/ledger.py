@@ -45,9 +45,9 @@ class State(Enum):
 
 @dataclass(frozen=True)
 class Sighting:
-    """A container that is there, as it was seen. `limit` and `nodes` are those of its group where its config has others, and `listed` is
-    the list that an update by its runtime gave it in place of its config's; with no stamp its config can't be seen, and stands for
-    what it has."""
+    """A container that is there, as it was seen. `limit` and `nodes` are those of its group where its config has others; `listed` is
+    the list that an update by its runtime gave it in place of its config's, and `named` are such nodes; with no stamp its config
+    can't be seen, and stands for what it has."""
 
     told: Told
     stamp: Optional[Stamp]
@@ -60,11 +60,12 @@ class Sighting:
     near: Optional[int] = None  # the node of the device that it names
     listed: Optional[str] = None
     memory: Mapping[int, int] = field(default_factory=dict, compare=False)  # what it has of each node already, where that counts
+    named: Optional[Cpus] = None
 
     @property
     def asks(self) -> Tuple[object, ...]:
         """What it asks for is the same as long as this is the same."""
-        return self.stamp, self.group.inode, self.limit, self.nodes, self.stopped, self.listed
+        return self.stamp, self.group.inode, self.limit, self.nodes, self.stopped, self.listed, self.named
 
     @property
     def place(self) -> str:
@@ -88,6 +89,7 @@ class Container:
     followed: Optional[Cpus] = None  # the nodes that somebody gave its group, where it was told with these
     home: Optional[Cpus] = None
     homeless: bool = False  # whether no node has memory enough for it
+    certificate: str = ""   # the file that proves that there is no room for it, where it waits since a shortage of which that was kept
 
     @property
     def stays(self) -> bool:
@@ -105,13 +107,26 @@ class Sighted:
     sighting: Sighting
 
 
+@dataclass(frozen=True)
+class Stranger:
+    """A group that numarun was shown as it began, and that no container has since: of its plans none gives these CPUs away."""
+
+    path: str
+    inode: int
+    cpus: Cpus
+
+
 class Topic(Enum):
-    """Of what something can be left undone. Of each container, path and the like there is one thing at most under each topic."""
+    """Of what something can be left undone. Of each container, path and the like there is one thing at most under each topic; so what may be left
+    beside another thing has a topic of its own, and neither of them takes the other's place."""
 
     __hash__ = object.__hash__  # there is one of each, and Enum's own hash is slow
 
-    CONTAINER = "container"
+    CONTAINER = "container"  # whether it can be seen, and told of
+    DEMAND = "demand"        # whether what it asks for can be had
+    ROOM = "room"            # whether there is room for that
     STAYS = "stays"
+    OUTSIDE = "outside"      # of one that was told of too, which has ended by that
     DRIFT = "drift"
     SQUEEZED = "squeezed"
     LIMIT = "limit"
@@ -128,9 +143,10 @@ class Topic(Enum):
 
 
 class Kind(Enum):
-    """What is left undone; its value is the first word of the line that says so."""
+    """What is left undone."""
 
     ABSENT = "absent"
+    UNTOLD = "untold"  # it is there, and can't be told of at the moment
     STAYS = "stays"
     UNSEEN = "unseen"
     REFUSED = "refused"
@@ -143,6 +159,11 @@ class Kind(Enum):
     SQUEEZED = "squeezed"
     OUTSIDE = "outside"
     PARTITION = "partition"
+
+    @property
+    def word(self) -> str:
+        """The first word of the line that says so."""
+        return str((Kind.ABSENT if self is Kind.UNTOLD else self).value)
 
 
 FULL = (Kind.WAITS, Kind.KEEPS, Kind.FEWER)  # what a full machine leaves undone
@@ -158,12 +179,12 @@ class Problem:
 
     @property
     def line(self) -> str:
-        return f"{self.kind.value} {self.text}" if not self.text.startswith(":") else f"{self.kind.value}{self.text}"
+        return f"{self.kind.word} {self.text}" if not self.text.startswith(":") else f"{self.kind.word}{self.text}"
 
 
 Key = Tuple[Topic, str]
 CONTAINER_PAUSES = ("container", "limit")
-CONTAINER_TOPICS = (Topic.CONTAINER, Topic.STAYS, Topic.DRIFT, Topic.SQUEEZED, Topic.LIMIT)
+CONTAINER_TOPICS = (Topic.CONTAINER, Topic.DEMAND, Topic.ROOM, Topic.STAYS, Topic.DRIFT, Topic.SQUEEZED, Topic.LIMIT)
 
 
 @dataclass(frozen=True)
@@ -217,17 +238,21 @@ class Ledger:
     taken: Dict[str, Taken] = field(default_factory=dict)        # by the path of the group
     renewed: Dict[str, Taken] = field(default_factory=dict)      # the same of paths at which another group is by now
     known: FrozenSet[str] = frozenset()  # the paths that an agent before had taken
+    strangers: Dict[str, Stranger] = field(default_factory=dict)  # by the name under which numarun knows each
     before: Dict[str, Tuple[Optional[str], Optional[bool]]] = field(default_factory=dict)  # by id the group, and whether it was pinned
     pauses: Dict[Tuple[str, str], Pause] = field(default_factory=dict)
     pool: Optional[Cpus] = None  # the CPUs of all that have none of their own
     tried: Optional[List[str]] = None  # what a plan that a write kept from its end was to change
     due: bool = False     # whether a plan is to be worked out though nothing happened
     unmade: bool = False  # whether an update was not made, since a write failed
+    untried: bool = False  # whether it could not be tried who may get more, as where there was no memory for that
     spent: bool = False   # whether numarun has no pids left, so that a new run is wanted
     direct: bool = True   # whether numarun knows direct hand-overs, as far as it was asked
+    withholds: bool = True  # whether it keeps others off the CPUs of strangers, as far as it was asked
     started: bool = False
     wrong: bool = False   # whether there was an event that was refused
-    ending: bool = False
+    ending: bool = False        # whether the agent is told to end, which it does behind the hand-over that has begun
+    ends_at_once: bool = False  # whether it ends without that
     notes: Tuple[str, ...] = ()
     silent: Dict[str, Tuple[int, str]] = field(default_factory=dict)  # by a watched folder why it has no containers, and for how many looks
     loose: FrozenSet[Tuple[int, str]] = frozenset()  # processes outside of the partition that may run there, as they were said
@@ -292,6 +317,11 @@ class Ledger:
         for what in CONTAINER_PAUSES:
             self.pauses.pop((what, name), None)
 
+    def is_refused(self, name: str, sighting: Sighting) -> bool:
+        """Whether it was refused for good, as it is."""
+        before = self.refused.get(name)
+        return before is not None and (before.asks, before.group.path) == (sighting.asks, sighting.group.path)
+
     def is_over(self, what: str, of: str, now: float) -> bool:
         """Whether what failed may be tried again."""
         return (what, of) not in self.pauses or now >= self.pauses[what, of].until
@@ -314,12 +344,14 @@ STANDING = tuple(part.name for part in dataclasses.fields(Ledger) if part.name n
 
 
 def report(ledger: Ledger, topic: Topic, of: str, kind: Kind, text: str) -> Steps[None]:
-    """Says what is left undone, once as long as it is the same."""
-    problem = Problem(kind, of, text)
-    if ledger.problems.get((topic, of)) != problem or (topic, of) in ledger.unsaid:
-        ledger.problems[topic, of] = problem
-        ledger.unsaid.discard((topic, of))
-        yield Say(problem.line, Level.WARNING)
+    """Says what is left undone, once as long as it is the same, also where a plan and a container are kept from the same file."""
+    problem, key = Problem(kind, of, text), (topic, of)
+    if ledger.problems.get(key) != problem or key in ledger.unsaid:
+        is_said = any(known.line == problem.line for other, known in ledger.problems.items() if other != key and other not in ledger.unsaid)
+        ledger.problems[key] = problem
+        ledger.unsaid.discard(key)
+        if not is_said:
+            yield Say(problem.line, Level.WARNING)
 
 
 def say_unsaid(ledger: Ledger) -> List[Command]:
@@ -328,6 +360,7 @@ def say_unsaid(ledger: Ledger) -> List[Command]:
 
 
 def is_undone(ledger: Ledger, told_to_end: bool) -> bool:
-    """Whether something is left undone that the exit status names: of one that was told to end, no container that has no room."""
+    """Whether something is left undone that the exit status names: of one that was told to end, no container that has no room, and no plan
+    that the next one makes."""
     left = [problem for problem in ledger.problems.values() if problem.kind is not Kind.OUTSIDE and not (told_to_end and problem.kind in FULL)]
-    return bool(ledger.wrong or ledger.due or left)
+    return bool(ledger.wrong or ledger.due and not told_to_end or left)

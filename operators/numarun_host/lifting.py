@@ -4,7 +4,7 @@ with nobody. What its `cpu.max` had is kept before that is written, and stands t
 from __future__ import annotations
 
 import dataclasses
-from typing import Iterator, Optional, Tuple
+from typing import Iterator, Optional, Set, Tuple
 
 from .commands import SaveTaken, Say, SetLimit, Steps, Taken
 from .configs import Limit
@@ -24,26 +24,36 @@ def lift_all(turn: Turn) -> Steps[None]:
     """Lifts the limits of those that have CPUs of their own, and gives back those of all others."""
     ledger = turn.ledger
     limited = list(limited_ones(turn))
-    due = [(container, group.limit) for container, group, _ in limited if is_free_of_limits(ledger, container) and group.limit]
-    for container, limit in due:
+    due = [(container, group, group.limit) for container, group, _ in limited if is_free_of_limits(ledger, container) and group.limit]
+    for container, _, limit in due:
         keep(turn, container, limit)
     if due and turn.unsaved:
         yield SaveTaken(ledger.all_taken)
         turn.unsaved = False
-    for container, limit in due:
-        yield from lift(turn, container, limit)
-    for container, group, taken in limited:
-        if taken.limit and not is_free_of_limits(ledger, container):
-            yield from give_back(turn, container, group, taken.limit)
+    for container, group, limit in due:
+        yield from lift(turn, container, group, limit)
+    lent = [(container, group, taken.limit) for container, group, taken in limited if taken.limit and not is_free_of_limits(ledger, container)]
+    for container, group, limit in lent:
+        yield from give_back(turn, container, group, limit)
+    settle_others(turn, {container.name for container, _, _ in [*due, *lent]})
+
+
+def settle_others(turn: Turn, tried: Set[str]) -> None:
+    """Nothing is left undone of the limits of others than these, whose turn it is, as where somebody took away one that could not be lifted."""
+    ledger = turn.ledger
+    for topic, name in [key for key in ledger.problems if key[0] is Topic.LIMIT and key[1] not in tried]:
+        if ledger.is_over("limit", name, turn.now):
+            ledger.settle(topic, name)
+            ledger.end_pause("limit", name)
 
 
 def limited_ones(turn: Turn) -> Iterator[Tuple[Container, Group, Taken]]:
-    """The containers whose groups have limits, or had some that were lifted: with their groups as they were seen, and what was kept of these."""
+    """The containers whose groups have limits, or had some that were lifted: with their groups as this look found them, also where what these ask
+    for is taken up later, and what was kept of these."""
     ledger = turn.ledger
     for container in list(ledger.containers.values()):
-        group = container.seen.group
-        taken = ledger.taken.get(group.path)
-        if taken and (group.limit or taken.limit) and taken.inode == group.inode and not container.seen.told.is_system:
+        group, taken = turn.look.group(container.seen.group.path), ledger.taken.get(container.seen.group.path)
+        if group and taken and (group.limit or taken.limit) and taken.inode == group.inode and not container.seen.told.is_system:
             if ledger.is_over("limit", container.name, turn.now):
                 yield container, group, taken
 
@@ -63,8 +73,8 @@ def keep(turn: Turn, container: Container, limit: Optional[Limit]) -> None:
         turn.unsaved = True
 
 
-def lift(turn: Turn, container: Container, limit: Limit) -> Steps[None]:
-    if (yield from set_limit(turn, container, SetLimit(container.seen.group.path, container.seen.group.inode, None, limit))):
+def lift(turn: Turn, container: Container, group: Group, limit: Limit) -> Steps[None]:
+    if (yield from set_limit(turn, container, SetLimit(group.path, group.inode, None, limit))):
         yield Say(f"lift {turn.ledger.title(container.name)}: no limit in place of {limit[0]} {limit[1]}, since it has CPUs of its own")
 
 

@@ -7,8 +7,9 @@ import fcntl
 import os
 import shutil
 import time
-from typing import Dict, List, Optional, Sequence, Tuple
+from typing import Dict, List, Mapping, Optional, Sequence, Tuple
 
+from .commands import NAMELESS
 from .cpus import Cpus, print_list
 from .script import Refused
 
@@ -42,9 +43,8 @@ class Links:
         self.links = os.path.join(self.folder, "numarun")
         os.makedirs(self.links, exist_ok=True)
         # The groups of an agent before by their ids.
-        self.before: Dict[str, Tuple[Optional[str], Optional[bool]]] = {name: (self.linked(name), None) for name in os.listdir(self.links)}
-        for name in self.before:
-            self.unlink(name)
+        ids = [name for name in os.listdir(self.links) if not name.startswith(NAMELESS)]
+        self.before: Dict[str, Tuple[Optional[str], Optional[bool]]] = {name: (self.linked(name), None) for name in ids}
         self.link_file("cgroup.controllers")
 
     def link_file(self, name: str) -> None:
@@ -57,6 +57,15 @@ class Links:
     def linked(self, name: str) -> Optional[str]:
         path = os.path.join(self.links, name)
         return os.readlink(path) if os.path.islink(path) else None
+
+    def leave(self, groups: Mapping[str, str]) -> None:
+        """Links these groups by these names, and no others."""
+        for name in os.listdir(self.links):
+            if name not in groups:
+                self.unlink(name)
+        for name, path in groups.items():
+            if self.linked(name) != path:
+                self.link(name, path)
 
     def link(self, name: str, path: str) -> None:
         self.unlink(name)

@@ -5,7 +5,7 @@ from __future__ import annotations
 import dataclasses
 import os
 import stat
-from typing import Dict, FrozenSet, Mapping, Optional, Set, Tuple, Union
+from typing import Dict, FrozenSet, List, Mapping, Optional, Set, Tuple, Union
 
 from .cgroups import Groups, group_path, has_ended, memory_by_node, read_file, read_json
 from .configs import NEAR, Config, memory_asked, wish_of
@@ -17,7 +17,7 @@ from .memory import free_memory
 from .names import Names
 from .partition_files import PartitionFiles
 from .script import Refused, read_text
-from .seen import Found, Group, Look, Missing, NoGroup, Online, Stamp, Told
+from .seen import Found, Group, Look, Missing, NoGroup, Online, Stamp, Told, Unread
 from .sources import Source
 
 LIST_BYTES = 1 << 16
@@ -41,13 +41,8 @@ class Eyes:
         self.online = self.read_online()
 
     def look(self, ledger: Ledger, now: float) -> Look:
-        fault: Optional[str] = None
-        try:
-            self.source.look()
-            if self.online_path:
-                self.online = self.read_online()
-        except Refused as why:
-            fault = str(why)
+        self.source.look()
+        unread = [*self.source.unread, *self.look_at_online()]
         told = {name: self.container(ledger, name, container) for name, container in self.source.told.items()}
         for name in (self.configs.keys() | self.found.keys()) - told.keys():
             self.configs.pop(name, None)
@@ -61,7 +56,7 @@ class Eyes:
         wrong, events = tuple(self.source.wrong), tuple(self.source.events)
         self.source.wrong, self.source.events = [], []
         return Look(now, told, groups, self.online, events, wrong, self.memory(), slices, below, busy, self.source.folders, self.source.doubles,
-                    self.names.titles(self.source.told, ledger.containers), fault, self.partition.look(now) if self.partition else None)
+                    self.names.titles(self.source.told, ledger.containers), tuple(unread), self.partition.look(now) if self.partition else None)
 
     # Containers.
 
@@ -131,6 +126,7 @@ class Eyes:
         found: Dict[str, Union[Group, NoGroup]] = {container.group.path: container.group for container in told.values() if isinstance(container, Found)}
         paths: Set[str] = {container.seen.group.path for container in ledger.containers.values()}
         paths |= {path for path, _ in ledger.before.values() if path} | ledger.taken.keys() | ledger.renewed.keys()
+        paths |= {stranger.path for stranger in ledger.strangers.values()}
         ways = groups.ways_to(slices, frozenset(paths | found.keys())) if slices else set()
         below = {path: groups.children(path) for path in ways}
         paths |= ways | {f"{groups.root}/{name}" for name in slices}
@@ -152,6 +148,15 @@ class Eyes:
         there = listed if effective is None else listed & effective
         strange = (listed if effective is None else effective) - machine.present
         return Online(there & machine.present, strange, (listed - there) & machine.present, not self.online_path)
+
+    def look_at_online(self) -> List[Unread]:
+        """Reads the kernel's list anew; it counts as it was where it can't be read."""
+        try:
+            if self.online_path:
+                self.online = self.read_online()
+        except Refused as why:
+            return [Unread(self.online_path or "", str(why))]
+        return []
 
     @property
     def counts_memory(self) -> bool:

@@ -5,7 +5,7 @@ from __future__ import annotations
 import json
 from typing import Dict, FrozenSet, Iterable, List, Mapping, Optional
 
-from .cpus import NO_CPUS, NODES, Cpus, read_list
+from .cpus import NO_CPUS, NODES, Cpus, counted, print_list, read_list
 from .script import Refused, read_text
 
 MACHINE_BYTES = 1 << 20
@@ -25,6 +25,24 @@ def parse_machine(path: str) -> Dict[str, object]:
     return found
 
 
+def add_cpus(found: Mapping[str, object], more: Cpus) -> Dict[str, object]:
+    """A machine file's object with CPUs that it lacks and that no plan gives to anybody, so that their node and their cores are of no account: they
+    are where the first reserved CPU is, in cores of as many CPUs as the others have."""
+    nodes, cores = sets_in(found, "nodes"), sets_in(found, "cores")
+    threads, others = len(cores[0]) if cores else 1, sorted(more)
+    if len(others) % threads:
+        raise Refused(f"--partition: CPUs {print_list(more)} of the partition, which the machine file lacks, are no whole cores")
+    first = min(as_set(found.get("reserved"), "reserved"))
+    nodes = [node | more if first in node else node for node in nodes]
+    cores += [frozenset(others[at:at + threads]) for at in range(0, len(others), threads)] if cores else []
+    return {**found, "nodes": [print_list(node, empty="") for node in nodes], **({"cores": list(map(print_list, cores))} if cores else {})}
+
+
+def sets_in(found: Mapping[str, object], name: str) -> List[Cpus]:
+    lists = found.get(name)
+    return [as_set(item, name) for item in lists] if isinstance(lists, list) else []
+
+
 def as_set(text: object, place: str) -> Cpus:
     if not isinstance(text, str):
         raise Refused(f"{place}: no list of CPUs as text")
@@ -32,10 +50,10 @@ def as_set(text: object, place: str) -> Cpus:
 
 
 class Machine:
-    """A machine file: `nodes` is a list of sets of CPUs, and `distances` is nothing where the file has none."""
+    """A machine file, and more CPUs than it has: `nodes` is a list of sets of CPUs, and `distances` is nothing where the file has none."""
 
-    def __init__(self, path: str) -> None:
-        found = parse_machine(path)
+    def __init__(self, path: str, more: Cpus = NO_CPUS) -> None:
+        found = add_cpus(parse_machine(path), more) if more else parse_machine(path)
         self.nodes = self.read_nodes(found.get("nodes"), path)
         self.node_of: Dict[int, int] = {cpu: node for node, cpus in enumerate(self.nodes) for cpu in cpus}
         self.present: Cpus = frozenset(self.node_of)
@@ -85,11 +103,11 @@ class Machine:
         if rows is None:
             return None
         if not isinstance(rows, list) or len(rows) != count:
-            raise Refused(f"{path}: distances: not {count} rows")
+            raise Refused(f"{path}: distances: not {counted(count, 'row')}")
         for k, row in enumerate(rows):
             fits = isinstance(row, list) and len(row) == count
             if not fits or any(type(entry) is not int or not 10 <= entry <= 255 for entry in row):
-                raise Refused(f"{path}: distances: row {k}: not {count} numbers from 10 to 255")
+                raise Refused(f"{path}: distances: row {k}: not {counted(count, 'number')} from 10 to 255")
         return rows
 
     def cores_in(self, cpus: FrozenSet[int]) -> FrozenSet[int]:

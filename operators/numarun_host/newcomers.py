@@ -3,12 +3,11 @@
 from __future__ import annotations
 
 import dataclasses
-import re
 from collections import Counter
 from dataclasses import dataclass
 from typing import Dict, List, Mapping, Optional
 
-from .beginnings import Comer, beginnings
+from .beginnings import Comer, Wait, beginnings
 from .commands import Drop, Link, SaveTaken, Say, Steps, Taken, Tell, Unlink, Verb
 from .configs import Demand, bare, fewer, shared, stays, staying
 from .cpus import NO_CPUS, Cpus, print_list
@@ -16,9 +15,9 @@ from .ledger import Container, Kind, Ledger, Sighting, State, Topic, report
 from .placing import demand_of, free_cpus, promise, say_home
 from .room import say_waits
 from .sightings import nodes_of
+from .slices import is_id
+from .strangers import has_some, is_withheld, not_withheld
 from .telling import CONFIG_FAULTS, NOT_FREE, Reply, Turn, ask, report_failure, requested
-
-ID = re.compile(r"[A-Za-z0-9_.+-]{1,64}")
 
 
 @dataclass(frozen=True)
@@ -31,6 +30,7 @@ class Way:
     cpus: Cpus
     is_new: bool = False
     why: str = ""  # it waits
+    certificate: str = ""  # the file that proves that it has to
 
 
 @dataclass(frozen=True)
@@ -51,11 +51,13 @@ def take_all(turn: Turn) -> Steps[bool]:
     yield from keep_what_they_had(turn, [come[name] for name in names])
     turn.owners = {container.seen.group.path: name for name, container in ledger.containers.items()} if ledger.has_tree else {}
     turn.users, turn.spare, taken = None, None, False
+    turn.coming = {come[name].group.path for name in names}
     planned = yield from plan_ways(turn, {name: come[name] for name in names})
     for name in names:
         if ledger.ending:
             return True
         taken = (yield from take_up(turn, name, come[name], planned.get(name))) or taken
+        turn.coming.discard(come[name].group.path)
     return taken
 
 
@@ -65,8 +67,8 @@ def plan_ways(turn: Turn, come: Mapping[str, Sighting]) -> Steps[Dict[str, Plann
     ledger, present, paths = turn.ledger, turn.ledger.settings.machine.present, set(turn.owners)
     if all(seen.told.is_system or seen.group.cpus & present for seen in come.values()) or not ledger.has_tree or ledger.pool is not None:
         return {}
-    no_plan = ledger.ending or turn.strays or still_blocking(turn).keys() - come.keys() or unseen_paths(turn)
-    if no_plan or turn.late or ledger.renewed:
+    blocked = [seen.group.path for name, seen in still_blocking(turn).items() if name not in come]
+    if ledger.ending or turn.strays or turn.late or ledger.renewed or not_withheld(turn, [*blocked, *unseen_paths(turn)]):
         return {}
     planned: Dict[str, Planned] = {}
     comers: List[Comer] = []
@@ -82,7 +84,8 @@ def plan_ways(turn: Turn, come: Mapping[str, Sighting]) -> Steps[Dict[str, Plann
     for name, begins in found.items():
         demand = planned[name].demand
         given = demand if begins.waits is None else shared(demand.config)
-        way = Way(given, begins.waits is not None, begins.cpus, is_new=True, why=begins.waits or "")
+        wait = begins.waits or Wait("")
+        way = Way(given, begins.waits is not None, begins.cpus, is_new=True, why=wait.why, certificate=wait.certificate)
         if way.given.count is None or is_alone(turn, come[name], way.cpus):
             planned[name] = Planned(demand, way)
     return planned if found else {}
@@ -90,13 +93,7 @@ def plan_ways(turn: Turn, come: Mapping[str, Sighting]) -> Steps[Dict[str, Plann
 
 def is_new(turn: Turn, name: str, sighting: Sighting) -> bool:
     """Whether it was not refused as it is, and may be told of by now."""
-    return not is_refused(turn, name, sighting) and turn.ledger.is_over("container", name, turn.now)
-
-
-def is_refused(turn: Turn, name: str, sighting: Sighting) -> bool:
-    """Whether it was refused for good, as it is."""
-    before = turn.ledger.refused.get(name)
-    return before is not None and (before.asks, before.group.path) == (sighting.asks, sighting.group.path)
+    return not turn.ledger.is_refused(name, sighting) and turn.ledger.is_over("container", name, turn.now)
 
 
 def keep_what_they_had(turn: Turn, come: List[Sighting]) -> Steps[None]:
@@ -113,10 +110,6 @@ def keep_what_they_had(turn: Turn, come: List[Sighting]) -> Steps[None]:
         yield SaveTaken(ledger.all_taken)
 
 
-def is_id(name: str) -> bool:
-    return ID.fullmatch(name) is not None and name not in (".", "..")
-
-
 def take_up(turn: Turn, name: str, sighting: Sighting, planned: Optional[Planned]) -> Steps[bool]:
     """Tells of a container that is there; whether it was taken."""
     ledger, owner = turn.ledger, turn.owners.get(sighting.group.path)
@@ -125,7 +118,8 @@ def take_up(turn: Turn, name: str, sighting: Sighting, planned: Optional[Planned
     if owner:
         text = f": its group is that of {ledger.title(owner)}: {ledger.title(name)} {sighting.place}"
         ledger.refused[name] = sighting
-        yield from report(ledger, Topic.CONTAINER, name, Kind.REFUSED, text)
+        ledger.settle(Topic.CONTAINER, name)
+        yield from report(ledger, Topic.DEMAND, name, Kind.REFUSED, text)
         return False
     cpus = sighting.group.cpus & ledger.settings.machine.present
     planned = planned or Planned(demand_of(turn, sighting))
@@ -155,7 +149,7 @@ def ways_of(turn: Turn, sighting: Sighting, demand: Demand, cpus: Cpus) -> List[
     ledger, alone = turn.ledger, is_alone(turn, sighting, cpus)
     less, own = shared(demand.config), cpus if alone and not cpus & ledger.reserved else NO_CPUS
     if demand.count is None:
-        begins = cpus or (free_cpus(ledger) if sighting.told.is_system else NO_CPUS)
+        begins = cpus or (free_cpus(turn) if sighting.told.is_system else NO_CPUS)
         ways = [Way(demand, False, begins), Way(demand, False, NO_CPUS)]
     elif not alone and (cpus & ledger.reserved or len(cpus) > demand.count):
         ways = [Way(less, True, cpus), Way(demand, False, NO_CPUS)]
@@ -208,11 +202,12 @@ def hold(turn: Turn, name: str, sighting: Sighting, demand: Demand, way: Way, cp
     refused = fault if fault and given != demand and not way.waits else None
     own = len(cpus & (has or NO_CPUS) - ledger.reserved) if has else 0
     state = state_of(given, way.waits, refused is not None and given != shared(demand.config), own)
-    container = Container(name, sighting, state, given if refused else demand, given, None, has, nodes, sighting.nodes)
+    container = Container(name, sighting, state, given if refused else demand, given, None, has, nodes, sighting.nodes, certificate=way.certificate)
     ledger.put(container)
     if ledger.has_tree:
         turn.owners[sighting.group.path] = name
     ledger.forget(name, Topic.CONTAINER, Topic.DRIFT, Topic.SQUEEZED)
+    ledger.settle(Topic.ROOM, name, Kind.KEEPS, Kind.FEWER if way.waits else Kind.WAITS)
     if not way.waits:
         yield from say_home(ledger, name)
     elif way.why:
@@ -220,7 +215,9 @@ def hold(turn: Turn, name: str, sighting: Sighting, demand: Demand, way: Way, cp
     promise(turn, given, has or NO_CPUS)
     if refused:
         where = "it stays as it was" if given.count else "it runs on the pool"
-        yield from report(ledger, Topic.CONTAINER, name, Kind.REFUSED, f"{refused.refusal}: {ledger.title(name)} {sighting.place}: {where}")
+        yield from report(ledger, Topic.DEMAND, name, Kind.REFUSED, f"{refused.refusal}: {ledger.title(name)} {sighting.place}: {where}")
+    else:
+        ledger.settle(Topic.DEMAND, name)
 
 
 def state_of(given: Demand, waits: bool, bare_config: bool, own: int) -> State:
@@ -246,7 +243,9 @@ def refuse(turn: Turn, name: str, sighting: Sighting, reply: Reply, cpus: Option
             ledger.blocking[name] = sighting
         return False
     ledger.refused[name] = sighting
-    yield from report(ledger, Topic.CONTAINER, name, Kind.REFUSED, f"{reply.refusal}: {ledger.title(name)} {sighting.place}")
+    ledger.settle(Topic.CONTAINER, name)
+    ledger.settle(Topic.ROOM, name)
+    yield from report(ledger, Topic.DEMAND, name, Kind.REFUSED, f"{reply.refusal}: {ledger.title(name)} {sighting.place}")
     return False
 
 
@@ -254,7 +253,7 @@ def requested_by_untold(turn: Turn) -> Cpus:
     """The CPUs outside the reserved ones that groups request by now of which numarun is not told: those that come or can't be told of at the moment,
     and those with a process that an agent told of before."""
     ledger, there = turn.ledger, turn.there
-    come = [seen.group for name, seen in there.items() if name not in ledger.containers and not is_refused(turn, name, seen)]
+    come = [seen.group for name, seen in there.items() if name not in ledger.containers and not ledger.is_refused(name, seen)]
     others = [turn.look.group(path) for path in [*(seen.group.path for seen in ledger.blocking.values()), *unseen_paths(turn)]]
     return NO_CPUS.union(*(group.cpus for group in [*come, *others] if group)) - ledger.reserved
 
@@ -263,8 +262,9 @@ def unseen_paths(turn: Turn) -> List[str]:
     """The groups that an agent told of before and nobody tells of now, and that have a process and CPUs that a plan may give to others."""
     ledger = turn.ledger
     known = {seen.group.path for seen in [*ledger.blocking.values(), *turn.there.values()]}
-    return [path for path, taken in ledger.taken.items()
-            if not taken.system and path not in known and turn.runs(path, taken.inode) and has_some(turn, path)]
+    inodes = {stranger.path: stranger.inode for stranger in ledger.strangers.values()}
+    inodes.update((path, taken.inode) for path, taken in ledger.taken.items() if not taken.system)
+    return [path for path, inode in inodes.items() if path not in known and turn.runs(path, inode) and has_some(turn, path)]
 
 
 def still_blocking(turn: Turn) -> Dict[str, Sighting]:
@@ -275,24 +275,27 @@ def still_blocking(turn: Turn) -> Dict[str, Sighting]:
 def untold(turn: Turn) -> Dict[str, Sighting]:
     """Those of whom numarun could not be told at this look or before, and whose groups request CPUs, as by a write that was the last to be done."""
     containers, reserved = turn.ledger.containers, turn.ledger.reserved
-    return {name: seen for name, seen in turn.there.items() if name not in containers and seen.group.cpus - reserved and not is_refused(turn, name, seen)}
+    return {name: seen for name, seen in turn.there.items()
+            if name not in containers and seen.group.cpus - reserved and not turn.ledger.is_refused(name, seen)}
 
 
 def is_held_up(turn: Turn) -> Steps[bool]:
-    """Whether somebody runs on CPUs of which numarun does not know, as who can't be told of at the moment, so that a plan might give these to
-    others; says who."""
+    """Whether a plan might give CPUs to others on which somebody runs of whom numarun does not know, as who can't be told of at the moment;
+    says of whom nobody tells."""
     ledger = turn.ledger
     ledger.blocking = {**still_blocking(turn), **untold(turn)}
     unseen = unseen_paths(turn)
     for topic, of in [key for key in ledger.problems if key[0] is Topic.UNSEEN and key[1] not in unseen]:
         ledger.settle(topic, of)
     for path in unseen:
-        text = f"{path}: it was told of before, and there is a process in it: no plan until it is told"
-        yield from report(ledger, Topic.UNSEEN, path, Kind.UNSEEN, text)
-    return bool(ledger.blocking or unseen or turn.strays or turn.unsure)
+        yield from say_unseen(turn, path)
+    paths = [*unseen, *(seen.group.path for seen in ledger.blocking.values())]
+    return bool(not_withheld(turn, paths) or turn.strays or turn.unsure)
 
 
-def has_some(turn: Turn, path: str) -> bool:
-    """Whether a group requests CPUs that a plan may give to others, or all."""
+def say_unseen(turn: Turn, path: str) -> Steps[None]:
     group = turn.look.group(path)
-    return group is not None and (not group.cpus or bool(group.cpus - turn.ledger.reserved))
+    assert group
+    plan = f"no plan gives {print_list(group.cpus)} to anybody" if is_withheld(turn, path) else "no plan"
+    text = f"{path}: it was told of before, and there is a process in it: {plan} until it is told"
+    yield from report(turn.ledger, Topic.UNSEEN, path, Kind.UNSEEN, text)

@@ -111,8 +111,9 @@ class Partition:
 
     @property
     def online(self) -> Optional[Cpus]:
-        """The CPUs that the tree's root would have without the partition."""
-        return None if self.above is None else self.above | (self.effective if self.text in (ROOT, ISOLATED) else NO_CPUS)
+        """The CPUs that the tree's root would have without the partition. One two deep that is broken keeps its CPUs on Linux 6.12 until it is
+        told to be a member."""
+        return None if self.above is None else self.above | (NO_CPUS if self.text in (None, MEMBER) else self.effective)
 
     @property
     def is_valid(self) -> bool:

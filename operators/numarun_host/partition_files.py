@@ -49,10 +49,13 @@ class PartitionFiles:
         self.next_loose = 0.0
 
     def look(self, now: float) -> Partition:
-        """The look of a turn, at who is in the root group too."""
+        """The look of a turn, at who is in the root group too: anew once it is a partition again, since that may have moved them."""
         if now >= self.next_loose:
             self.loose, self.next_loose = tuple(loose_in(self.layout.root, self.cpus())), now + LOOSE_PAUSE
-        return self.sight(None)
+        seen = self.sight(None)
+        if seen.text != ROOT:
+            self.loose, self.next_loose = (), now
+        return seen
 
     def sight(self, wanted: Optional[Cpus]) -> Partition:
         """A look, at who is below too where it has more CPUs than these. The text is read last: if it says `root` then, it did so while the
@@ -175,8 +178,19 @@ def below_in(path: str) -> Iterator[Below]:
 
 
 def loose_in(root: str, cpus: Cpus) -> Iterator[Loose]:
-    """The processes of the root group that may run on some of these CPUs, by one of their threads at least. Kernel threads are none."""
-    for pid in (read_file(f"{root}/cgroup.procs") or "").split():
+    """The processes of the root group that may run on some of these CPUs, by one of their threads at least. Kernel threads are none, nor is
+    who has left it meanwhile, as a container's first process does."""
+    found = list(seen_loose(root, cpus))
+    still = processes_in(root) if found else []
+    return (process for process in found if str(process.pid) in still)
+
+
+def processes_in(group: str) -> List[str]:
+    return (read_file(f"{group}/cgroup.procs") or "").split()
+
+
+def seen_loose(root: str, cpus: Cpus) -> Iterator[Loose]:
+    for pid in processes_in(root):
         stat = read_file(f"/proc/{pid}/stat")
         if not stat or int(stat.rpartition(")")[2].split()[6]) & KERNEL_THREAD:
             continue
@@ -201,9 +215,16 @@ def layout_of(root: str, group: str) -> Layout:
     return Layout(tuple("/".join([root, *names[:k + 1]]) for k in range(len(names))))
 
 
+def is_file(path: str) -> bool:
+    """Whether something is there that is no group."""
+    return os.path.lexists(path) and not os.path.isdir(path)
+
+
 def make(layout: Layout, cpus: Cpus, work: str) -> None:
     """Makes the partition with these CPUs, unless it is there already. Where that can't be, what was done is undone, and the reason is the
     kernel's, with the name of who stands against it."""
+    for path in filter(is_file, layout.groups):
+        raise Refused(f"--partition: {path} is a file, and no group")
     before, inode, files = read_before(work), inode_of(layout.path), PartitionFiles(layout, work)
     if before and before.path != layout.path:
         raise Refused(f"--partition: an agent before made one of {before.path}: give that back first, by --release")

@@ -11,19 +11,21 @@ from .cpus import NO_CPUS, Cpus, print_list
 from .homes import beside, has_room, home_of, why_there
 from .ledger import Container, Ledger, Sighting, State
 from .script import Refused
+from .strangers import withheld
 from .telling import Turn
 
 
-def free_cpus(ledger: Ledger) -> Cpus:
-    """The CPUs that no pinned container requests, the reserved ones among them."""
+def free_cpus(turn: Turn) -> Cpus:
+    """The CPUs that no pinned container requests, and that are withheld for nobody, the reserved ones among them."""
+    ledger = turn.ledger
     taken = [container.cpus or NO_CPUS for container in ledger.containers.values() if container.state.is_pinned]
-    return ledger.running.difference(*taken) | ledger.reserved
+    return ledger.running.difference(withheld(turn), *taken) | ledger.reserved
 
 
 def spare_cpus(turn: Turn) -> Cpus:
     """Those of them that are promised to nobody."""
     if turn.spare is None:
-        turn.spare = free_cpus(turn.ledger) - turn.ledger.reserved
+        turn.spare = free_cpus(turn) - turn.ledger.reserved
         for container in turn.ledger.containers.values():
             promise(turn, container.given, container.cpus or NO_CPUS)
     return turn.spare

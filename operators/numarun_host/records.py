@@ -17,7 +17,7 @@ LAST_STATE = "status.json"
 FIGURES = {
     "plans_total": ("counter", "plans that were handed over to the end"),
     "moves_total": ("counter", "CPUs that a container got which its group did not request before"),
-    "steps_total": ("counter", "steps of hand-overs, each of a write at most"),
+    "steps_total": ("counter", "writes of hand-overs that were made"),
     "shortages_total": ("counter", "plans that could not be, since there are too few CPUs"),
     "refused_writes_total": ("counter", "writes that the kernel refused"),
     "distance": ("gauge", "the total distance of the last plan"),
@@ -57,6 +57,7 @@ class Certificates:
     def __init__(self, folder: str, most: int = KEPT) -> None:
         self.folder, self.most = folder, most
         self.last: Optional[Tuple[str, ...]] = None
+        self.path = ""  # of the last one
         if folder:
             try:
                 os.makedirs(folder, exist_ok=True)
@@ -64,13 +65,15 @@ class Certificates:
                 raise Refused(f"{folder}: {why.strerror}") from None
 
     def keep(self, lines: Tuple[str, ...]) -> Optional[str]:
-        """Keeps a certificate, unless it is the last one again; its file."""
-        if lines == self.last or not lines[0].startswith("numarun-certificate"):
+        """Keeps a certificate, unless it is the last one again; its file, and nothing of what is none."""
+        if lines == self.last:
+            return self.path
+        if not lines[0].startswith("numarun-certificate"):
             return None
-        self.last = lines
         name = datetime.now(timezone.utc).strftime("%Y-%m-%dT%H-%M-%S.%f")[:-3] + SUFFIX
         path = os.path.join(self.folder, name)
         replace_file(path, "\n".join(lines) + "\n")
+        self.last, self.path = lines, path
         self.drop_old()
         return path
 

@@ -22,6 +22,7 @@ ONLINE = "/sys/devices/system/cpu/online"
 def release(root: str, work: str, slices: Sequence[str]) -> int:
     """Says what was given back; 1 where a write was refused."""
     links, record = Links(root, work), read_record(work)
+    links.leave({})
     partition = give_partition_back(work)
     for line in partition.lines:
         print(line)

@@ -39,6 +39,13 @@ def read_text(path: str, most: int = BYTES) -> str:
         raise Refused(f"{path}: byte {why.start}: not UTF-8") from None
 
 
+def read_kept(path: str, most: int = BYTES) -> str:
+    """The text of a file that an agent has left. What is no file there is refused; nobody waits for a pipe."""
+    if not os.path.isfile(path):
+        raise Refused(f"{path}: no file")
+    return read_text(path, most)
+
+
 def replace_file(path: str, text: str) -> None:
     """The file has all of the text at once."""
     try:

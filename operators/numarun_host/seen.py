@@ -14,7 +14,7 @@ from .partition import Partition
 class Told:
     """A container as it was told: its bundle, its folder below what is watched (none of a group of the system itself), its group where
     the event names it, and which of those that were told under the id it is. `listed` is the list of CPUs that runc's state has, which
-    may be empty; `fault` is why it can't be told of."""
+    may be empty, and `nodes` that of nodes of memory; `fault` is why it can't be told of."""
 
     bundle: str
     folder: Optional[str]
@@ -22,6 +22,7 @@ class Told:
     turn: int = 0
     listed: Optional[str] = None
     fault: Optional[str] = None
+    nodes: Optional[str] = None
 
     @property
     def is_system(self) -> bool:
@@ -104,6 +105,14 @@ class Folder:
 
 
 @dataclass(frozen=True)
+class Unread:
+    """What can't be read at a look, by its path, and the line of why. It counts as it was at the last look."""
+
+    path: str
+    line: str
+
+
+@dataclass(frozen=True)
 class Double:
     """A container in one watched folder whose id is that of one in another."""
 
@@ -115,8 +124,9 @@ class Double:
 @dataclass(frozen=True)
 class Look:
     """All that a look finds. `slices` are the groups of the system that are to be on the pool, below the root; `below` has those that are
-    right below one of these, and `busy` those that have processes of their own; `fault` is why what is told could not be read anew. Two looks
-    are the same that find the same; how much memory is free alone is nothing that has to be done."""
+    right below one of these, and `busy` those that have processes of their own; `unread` is what tells of containers or CPUs and can't be read. No
+    look finds the locks of the tree and of the agent's folder: they are taken once, as the agent begins, and kept until it ends. Two looks are the
+    same that find the same; how much memory is free alone is nothing that has to be done."""
 
     now: float = field(compare=False)
     told: Mapping[str, Union[Found, Missing]] = field(default_factory=dict)
@@ -131,7 +141,7 @@ class Look:
     folders: Tuple[Folder, ...] = ()
     doubles: Tuple[Double, ...] = ()
     titles: Mapping[str, str] = field(default_factory=dict)
-    fault: Optional[str] = None
+    unread: Tuple[Unread, ...] = ()
     partition: Optional[Partition] = None
     pool_command: Optional[str] = None  # that of --pool, as it was run last, where it has ended since the last look
     pool_fault: Optional[str] = None    # and why it failed

@@ -6,7 +6,7 @@ import dataclasses
 from typing import Dict, Mapping, Optional, Set, Tuple, Union
 
 from .commands import Steps
-from .configs import CPU, Limit, at, bare, nodes_named, other_limit, same_list
+from .configs import CPU, Limit, at, bare, nodes_in, nodes_named, other_limit, same_list
 from .cpus import NO_CPUS, Cpus
 from .ledger import CONTAINER_PAUSES, CONTAINER_TOPICS, Container, Kind, Ledger, Problem, Sighted, Sighting, Topic, report
 from .lifting import limit_of
@@ -33,6 +33,8 @@ def see_all(turn: Turn) -> Steps[None]:
 
 def forget_those_gone(ledger: Ledger, names: Set[str]) -> None:
     """Nothing is kept of who is not one of these, and was not told of either."""
+    for outside in {of for topic, of in ledger.problems if topic is Topic.OUTSIDE} - names:
+        ledger.settle(Topic.OUTSIDE, outside)
     kept = {of for topic, of in ledger.problems if topic in CONTAINER_TOPICS} | ledger.refused.keys() | ledger.blocking.keys()
     kept |= {of for what, of in ledger.pauses if what in CONTAINER_PAUSES}
     for name in kept - names - ledger.containers.keys():
@@ -50,7 +52,8 @@ def see_each(turn: Turn, told: Mapping[str, Union[Found, Missing]]) -> Steps[Non
         turn.there[name] = sighting_of(ledger, name, found)
         if ledger.problems:
             ledger.settle(Topic.STAYS, name)
-            ledger.settle(Topic.CONTAINER, name, Kind.ABSENT, Kind.OUTSIDE)
+            ledger.settle(Topic.OUTSIDE, name)
+            ledger.settle(Topic.CONTAINER, name, Kind.ABSENT)
 
 
 def miss(turn: Turn, name: str, found: Missing) -> Steps[None]:
@@ -58,7 +61,8 @@ def miss(turn: Turn, name: str, found: Missing) -> Steps[None]:
     ledger = turn.ledger
     if found.outside:
         ledger.settle(Topic.STAYS, name)
-        yield from report(ledger, Topic.CONTAINER, name, Kind.OUTSIDE, f"{ledger.title(name)}: {found.why}")
+        ledger.settle(Topic.CONTAINER, name)
+        yield from report(ledger, Topic.OUTSIDE, name, Kind.OUTSIDE, f"{ledger.title(name)}: {found.why}")
         return
     container = ledger.containers.get(name)
     if container and found.in_parts and not ledger.has_tree:
@@ -78,7 +82,7 @@ def sighting_of(ledger: Ledger, name: str, found: Found) -> Sighting:
     if before and before.found is found and before.container is container and before.taken is taken:
         return before.sighting
     sighting = Sighting(found.told, found.stamp, found.config, found.group, *limits(ledger, name, found), found.age, found.stopped, found.near,
-                        list_of(ledger, found), found.memory)
+                        list_of(ledger, found), found.memory, nodes_by_update(ledger, name, found))
     if container and container.seen == sighting:
         sighting = container.seen
     ledger.sighted[name] = Sighted(found, container, taken, sighting)
@@ -86,13 +90,16 @@ def sighting_of(ledger: Ledger, name: str, found: Found) -> Sighting:
 
 
 def limits(ledger: Ledger, name: str, found: Found) -> Tuple[Optional[Limit], Optional[Cpus]]:
-    """The limit and the nodes of a container's group, where somebody gave it others than its config has."""
+    """The limit and the nodes of a container's group, where somebody gave it others than its config has; or the nodes of its runtime's update, where
+    these are not written any more."""
     if found.told.is_system or not ledger.has_tree:
         return None, None
-    container, nodes = ledger.containers.get(name), found.group.nodes
+    container, nodes, named = ledger.containers.get(name), found.group.nodes, nodes_by_update(ledger, name, found)
     has = container.nodes if container else nodes_named(found.config)
     if not nodes or nodes == written(ledger, has) or not are_known(ledger, nodes):
-        nodes = container.followed if container else None
+        nodes = (container.followed if container else None) or named
+    elif not container:
+        nodes = named or nodes
     return other_limit(found.config, limit_of(ledger, found.group)), nodes
 
 
@@ -106,6 +113,21 @@ def list_of(ledger: Ledger, found: Found) -> Optional[str]:
         return None if same_list(told, at(found.config, *CPU, "cpus")) else told
     before = ledger.taken.get(group.path)
     return before.cpus if before and before.listed and before.inode == group.inode else None
+
+
+def nodes_by_update(ledger: Ledger, name: str, found: Found) -> Optional[Cpus]:
+    """The nodes that an update by its runtime gave a container. runc forgets them as it does a list, so the last ones that were seen are kept."""
+    if found.told.is_system or not ledger.has_tree:
+        return None
+    nodes, before = nodes_in(found.told.nodes), ledger.containers.get(name)
+    if not found.told.nodes and before and before.seen.group.inode == found.group.inode:
+        return before.seen.named
+    return nodes if nodes and nodes != nodes_named(found.config) and are_known(ledger, nodes) else None
+
+
+def is_updated(container: Container, sighting: Sighting) -> bool:
+    """Whether its runtime has given it another list of CPUs since it was seen last, or other nodes."""
+    return (sighting.listed, sighting.named) != (container.seen.listed, container.seen.named)
 
 
 def written(ledger: Ledger, nodes: Optional[Cpus]) -> Cpus:
@@ -186,6 +208,7 @@ def say_absent(ledger: Ledger, name: str, why: str) -> Steps[None]:
     """Says that one is not there when it was not there twice, for its runtime may be in the midst of making it."""
     text = f"{ledger.title(name)}: {why}"
     if ledger.problem(Topic.CONTAINER, name) is Kind.ABSENT:
+        ledger.settle(Topic.OUTSIDE, name)
         yield from report(ledger, Topic.CONTAINER, name, Kind.ABSENT, text)
     else:
         ledger.problems[Topic.CONTAINER, name] = Problem(Kind.ABSENT, name, text)

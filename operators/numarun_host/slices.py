@@ -17,6 +17,7 @@ from .seen import Found, Group, Missing, NoGroup, Told
 from .telling import Turn
 
 MOST_SIGNS = 64  # of an id
+ID = re.compile(r"[A-Za-z0-9_.+-]{1,64}")
 FILES = ("cpuset.cpus", "cpuset.mems")  # what a group requests
 Rest = Dict[str, Union[Found, Missing]]
 
@@ -24,9 +25,13 @@ Rest = Dict[str, Union[Found, Missing]]
 def id_of(group: str) -> str:
     """An id for a group: its path with + between the names; what no id may have is _, and then a digest tells it from others."""
     name = re.sub(r"[^A-Za-z0-9_.+-]", "_", group.replace("/", "+"))
-    if name == group.replace("/", "+") and len(name) <= MOST_SIGNS and name not in (".", ".."):
+    if name == group.replace("/", "+") and is_id(name):
         return name
     return f"{name[:MOST_SIGNS - 9]}-{zlib.crc32(group.encode(errors='surrogateescape')):08x}"
+
+
+def is_id(name: str) -> bool:
+    return ID.fullmatch(name) is not None and name not in (".", "..")
 
 
 def is_below(path: str, above: Optional[str]) -> bool:

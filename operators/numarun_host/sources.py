@@ -9,13 +9,13 @@ from dataclasses import dataclass
 from typing import Dict, Iterator, List, Optional, Sequence, Tuple, Union
 
 from .runtimes import Watch
-from .script import Refused
-from .seen import Double, Folder, Told
+from .seen import Double, Folder, Told, Unread
 from .states import Kept, kept_in
 
 ROOT = "/sys/fs/cgroup"  # of the tree, where no other is named
 LINE = 8192  # bytes of an event, as of a line of a script
 PIECE = 1 << 16
+Unreadable = Dict[str, Unread]  # by its path
 EVENTS = {"created": (2, 3), "started": (1,), "ended": (1,), "offline": (1,), "online": (1,), "rebalance": (0,)}
 
 
@@ -29,6 +29,7 @@ class Input:
         self.events: List[str] = []  # those other than of containers, in their order
         self.folders: Tuple[Folder, ...] = ()
         self.doubles: Tuple[Double, ...] = ()
+        self.unread: Tuple[Unread, ...] = ()
 
     def look(self) -> None:
         """Takes the lines that are there."""
@@ -81,10 +82,21 @@ class Entry:
         return self is other or (self.kept.group is not None and self.kept.group == other.kept.group)
 
 
+@dataclass(frozen=True)
+class Listed:
+    """A watched folder, and whether a runtime's name stands for it: its entries by their names, with what is there of a container; nothing where
+    there is no such folder."""
+
+    path: str
+    by_runtime: bool
+    entries: Optional[Tuple[Tuple[str, Optional[Entry]], ...]]
+
+
 class Folders:
     """The containers of folders: of bundles, or of the state of a runtime. Their ids are the entries. A folder that is not there yet
-    is an empty one. Of two containers of one id the one that is told already goes on, or else that of the folder that was named first.
-    If two folders tell of one group they tell of one container, and what its runtime keeps of it is more than what a hook does."""
+    is an empty one. One that can't be read has what it had at the last look, and the others are looked at all the same. Of two containers
+    of one id the one that is told already goes on, or else that of the folder that was named first. If two folders tell of one group
+    they tell of one container, and what its runtime keeps of it is more than what a hook does."""
 
     ended = False
 
@@ -92,14 +104,19 @@ class Folders:
         self.watches, self.root = watches, root
         self.told: Dict[str, Told] = {}
         self.known: Dict[str, Tuple[Tuple[int, int], Entry]] = {}  # by its folder what was told of it, and when that had changed last
-        self.seen: List[Tuple[str, bool, Optional[List[Tuple[str, Optional[Entry]]]]]] = []  # in each folder at the last look
+        self.seen: List[Listed] = []  # each folder at the last look
+        self.families: Dict[str, List[str]] = {}  # by the folder in which they are those of a family at the last look
         self.folders: Tuple[Folder, ...] = ()
         self.doubles: Tuple[Double, ...] = ()
+        self.unread: Tuple[Unread, ...] = ()
         self.wrong: List[str] = []
         self.events: List[str] = []
 
     def look(self) -> None:
-        seen = [(path, by_runtime, self.entries(path)) for path, by_runtime in self.paths()]
+        before = {listed.path: listed for listed in self.seen}
+        unread: Unreadable = {}
+        seen = [self.listed(path, by_runtime, before.get(path), unread) for path, by_runtime in self.paths(unread)]
+        self.unread = tuple(unread.values())
         if seen != self.seen:
             self.seen = seen
             self.choose()
@@ -108,12 +125,13 @@ class Folders:
         """What is told by what was seen, where that is otherwise than it was."""
         found: Dict[str, List[Entry]] = {}
         folders = []
-        for path, by_runtime, entries in self.seen:
-            containers = [entry for _, entry in entries or () if entry]
-            stranger = next((name for name, entry in entries or () if not entry), "")
+        for listed in self.seen:
+            entries = listed.entries or ()
+            containers = [entry for _, entry in entries if entry]
+            stranger = next((name for name, entry in entries if not entry), "")
             for entry in containers:
                 found.setdefault(entry.name, []).append(entry)
-            folders.append(Folder(path, entries is not None, len(entries or ()), len(containers), stranger, by_runtime))
+            folders.append(Folder(listed.path, listed.entries is not None, len(entries), len(containers), stranger, listed.by_runtime))
         self.folders = tuple(folders)
         chosen = {name: self.chosen(name, several) for name, several in found.items()}
         self.doubles = tuple(Double(name, entry.told.folder or "", chosen[name].told.folder or "")
@@ -122,21 +140,32 @@ class Folders:
         there = {entry.told.folder for several in found.values() for entry in several}
         self.known = {folder: known for folder, known in self.known.items() if folder in there}
 
-    def entries(self, path: str) -> Optional[List[Tuple[str, Optional[Entry]]]]:
-        """The entries of a folder by their names, with what is there of a container; nothing where there is no such folder."""
-        names = self.names(path)
-        return None if names is None else [(name, self.entry(f"{path}/{name}")) for name in sorted(names)]
+    def listed(self, path: str, by_runtime: bool, before: Optional[Listed], unread: Unreadable) -> Listed:
+        """A folder as it is; where it can't be read, as it was, or else without entries."""
+        names = names_in(path)
+        if isinstance(names, Unread):
+            unread[path] = names
+            return before or Listed(path, by_runtime, ())
+        return Listed(path, by_runtime, None if names is None else tuple((name, self.entry(f"{path}/{name}")) for name in names))
 
-    def paths(self) -> Iterator[Tuple[str, bool]]:
+    def paths(self, unread: Unreadable) -> Iterator[Tuple[str, bool]]:
         """The folders that are watched now, and whether a runtime's name stands for them; the one in which they are where there is none."""
         for watch in self.watches:
             if not watch.is_family:
                 yield watch.path, watch.by_runtime
                 continue
-            inside = [os.path.join(watch.parent, name) for name in sorted(self.names(watch.parent) or [])]
-            folders = [path for path in inside if os.path.isdir(path)]
-            for path in folders or [watch.parent]:
+            for path in self.family_in(watch.parent, unread) or [watch.parent]:
                 yield path, True
+
+    def family_in(self, parent: str, unread: Unreadable) -> List[str]:
+        """The folders in one; where that can't be read, those that were there."""
+        names = names_in(parent)
+        if isinstance(names, Unread):
+            unread[parent] = names
+            return self.families.get(parent, [])
+        folders = [path for path in (os.path.join(parent, name) for name in names or ()) if os.path.isdir(path)]
+        self.families[parent] = folders
+        return folders
 
     def chosen(self, name: str, several: List[Entry]) -> Entry:
         if len(several) == 1:
@@ -144,16 +173,6 @@ class Folders:
         before = self.told.get(name)
         first = next((entry for entry in several if before and entry.told.folder == before.folder), several[0])
         return next((entry for entry in several if entry.is_of(first) and entry.kept.by_runtime), first)
-
-    @staticmethod
-    def names(path: str) -> Optional[List[str]]:
-        """The entries that may be containers; nothing where there is no such folder."""
-        try:
-            return [name for name in os.listdir(path) if name[0] != "."]
-        except FileNotFoundError:
-            return None
-        except OSError as why:
-            raise Refused(f"{path}: {why.strerror}") from None
 
     def entry(self, folder: str) -> Optional[Entry]:
         """What is there of a container. Its state is read anew where its folder is another one, or has changed, or was not as it ought to be."""
@@ -170,9 +189,19 @@ class Folders:
             return None
         name = os.path.basename(folder)
         fault = kept.fault if is_word(name) else f"{ascii(folder)}: a name with blanks, or with signs that can't be printed, is no id"
-        entry = Entry(id_of(name), Told(kept.bundle, folder, listed=kept.listed, fault=fault), kept)
+        entry = Entry(id_of(name), Told(kept.bundle, folder, listed=kept.listed, fault=fault, nodes=kept.nodes), kept)
         self.known[folder] = stamp, entry
         return entry
+
+
+def names_in(path: str) -> Union[List[str], None, Unread]:
+    """The names of the entries that may be containers, in their order; nothing where there is no such folder."""
+    try:
+        return sorted(name for name in os.listdir(path) if name[0] != ".")
+    except FileNotFoundError:
+        return None
+    except (OSError, ValueError) as why:
+        return Unread(path, f"{path}: {getattr(why, 'strerror', None) or why}")
 
 
 def is_word(name: str) -> bool:

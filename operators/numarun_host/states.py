@@ -16,13 +16,14 @@ BUNDLE = "bundle="  # begins the label of runc's that names the bundle
 @dataclass(frozen=True)
 class Kept:
     """The container's bundle, or why there is none; its group below the root, where that is said; the list of CPUs that runc's state has,
-    which may be empty; and whether a runtime keeps it, and not a hook."""
+    which may be empty; whether a runtime keeps it, and not a hook; and the list of nodes that runc's state has."""
 
     bundle: str = ""
     fault: Optional[str] = None
     group: Optional[str] = None
     listed: Optional[str] = None
     by_runtime: bool = False
+    nodes: Optional[str] = None
 
 
 def kept_in(folder: str, root: str) -> Optional[Kept]:
@@ -51,12 +52,18 @@ def kept_as_bundle(folder: str, root: str) -> Kept:
 
 def kept_by_runc(state: Config, path: str, root: str) -> Kept:
     """What runc keeps: the bundle is one of the labels, and what the group is to request stands in the config."""
-    labels, listed = at(state, "config", "labels"), at(state, "config", "cgroups", "cpuset_cpus")
+    labels, cgroups = at(state, "config", "labels"), at(state, "config", "cgroups")
     texts = [label for label in labels if isinstance(label, str)] if isinstance(labels, list) else []
     bundle = next((text[len(BUNDLE):] for text in texts if text.startswith(BUNDLE)), "")
     if not bundle:
         return Kept(fault=f"{path}: it names no bundle")
-    return Kept(bundle, None, placed(root, state), listed.strip() if isinstance(listed, str) else None, True)
+    return Kept(bundle, None, placed(root, state), list_in(cgroups, "cpuset_cpus"), True, list_in(cgroups, "cpuset_mems"))
+
+
+def list_in(cgroups: object, name: str) -> Optional[str]:
+    """A list in runc's state, which may be empty."""
+    text = at(cgroups, name)
+    return text.strip() if isinstance(text, str) else None
 
 
 def placed(root: str, state: Optional[Config]) -> Optional[str]:

@@ -14,10 +14,11 @@ from typing import Dict, List, Mapping, Sequence, Tuple
 from .configs import at, parse_text
 from .hooks import STATUS, near
 from .records import LAST_STATE
-from .script import BYTES, Refused, read_text
+from .script import Refused, read_kept
 
 SECONDS = 10.0
-COLUMNS = ("container", "state", "CPUs", "nodes", "asks", "why")
+COLUMNS = ("title", "state", "cpus", "nodes", "asks", "why")  # of an entry, as the table has them
+HEADS = ("container", "state", "CPUs", "nodes", "asks", "why")
 
 
 class NoAnswer(Exception):
@@ -45,7 +46,7 @@ def ask_status(path: str) -> Dict[str, object]:
 def last_state(path: str) -> Dict[str, object]:
     """What an agent left in its folder."""
     left = os.path.join(os.path.dirname(path), LAST_STATE)
-    return parse_text(read_text(left, BYTES), left)
+    return parse_text(read_kept(left), left)
 
 
 def state_of(path: str) -> Tuple[Dict[str, object], str]:
@@ -59,7 +60,7 @@ def state_of(path: str) -> Tuple[Dict[str, object], str]:
         except Refused:
             raise Refused(str(why)) from None
         left = "as it ended" if state.get("ended") is True else "as it was then"
-        return state, f"{why}; this is what the last one left, {left}: {state.get('time')}"
+        return state, f"{why}; this is what the last one left, {left}: {text_at(state, 'time')}"
 
 
 def table_of(rows: Sequence[Sequence[str]]) -> List[str]:
@@ -67,28 +68,45 @@ def table_of(rows: Sequence[Sequence[str]]) -> List[str]:
     return ["  ".join(cell.ljust(width) for cell, width in zip(row, widths)).rstrip() for row in rows]
 
 
-def row_of(entry: object) -> List[str]:
-    asks = at(entry, "asks")
-    cells = [at(entry, "title"), at(entry, "state"), at(entry, "cpus"), at(entry, "nodes"), "-" if asks is None else asks, at(entry, "why")]
-    return [str(cell) for cell in cells]
+def text_at(entry: object, name: str, otherwise: str = "-") -> str:
+    """A member that is a text or a number, as a text."""
+    found = at(entry, name)
+    return str(found) if isinstance(found, (str, int, float)) else otherwise
+
+
+def entries_of(found: object) -> List[object]:
+    return found if isinstance(found, list) else []
+
+
+def cell_of(entry: object, name: str) -> str:
+    """What the table has of an entry: behind why it waits, or the like, the file that proves it."""
+    certificate = text_at(entry, "certificate", "") if name == COLUMNS[-1] else ""
+    return text_at(entry, name) + (f", certificate {certificate}" if certificate else "")
 
 
 def plan_line(plan: object) -> str:
     if not isinstance(plan, dict):
         return "no plan yet"
-    certificate = plan.get("certificate")
-    return f"plan total {plan.get('total')}" + (f", certificate {certificate}" if certificate else "")
+    certificate = text_at(plan, "certificate", "")
+    return f"plan total {text_at(plan, 'total')}" + (f", certificate {certificate}" if certificate else "")
 
 
 def text_of(status: Mapping[str, object]) -> str:
-    containers, undone = status.get("containers"), status.get("undone")
-    lines = [f"pool {status.get('pool')}, reserved {status.get('reserved')}, offline {status.get('offline')}", plan_line(status.get("plan"))]
-    rows = [row_of(entry) for entry in containers] if isinstance(containers, list) else []
-    if rows:
-        lines += ["", *table_of([list(COLUMNS), *rows])]
-    whys = {at(entry, "why") for entry in containers} if isinstance(containers, list) else set()
-    others = [str(at(entry, "line")) for entry in undone if at(entry, "line") not in whys] if isinstance(undone, list) else []
+    sets = ", ".join(f"{name} {text_at(status, name)}" for name in ("pool", "reserved", "offline"))
+    lines = [sets, plan_line(status.get("plan"))]
+    containers = entries_of(status.get("containers"))
+    if containers:
+        lines += ["", *table_of([HEADS, *([cell_of(entry, name) for name in COLUMNS] for entry in containers)])]
+    whys = {text_at(entry, "why") for entry in containers}
+    others = [line for line in (text_at(entry, "line") for entry in entries_of(status.get("undone"))) if line not in whys]
     return "\n".join(lines + (["", "left undone:", *(f"  {line}" for line in others)] if others else []))
+
+
+def as_json(status: Mapping[str, object], path: str) -> str:
+    try:
+        return json.dumps(status, indent=2)
+    except RecursionError:
+        raise Refused(f"{path}: its state is nested too deep") from None
 
 
 def main(words: Sequence[str]) -> int:
@@ -99,5 +117,5 @@ def main(words: Sequence[str]) -> int:
     status, line = state_of(told.agent)
     if line:
         print(f"numarun-agent: {line}", file=sys.stderr)
-    print(json.dumps(status, indent=2) if told.json else text_of(status))
+    print(as_json(status, told.agent) if told.json else text_of(status))
     return 1 if line else 0

@@ -11,22 +11,22 @@ from typing import Dict, List, Mapping, Optional, Tuple
 from .commands import Taken
 from .configs import Limit, is_number, parse_text
 from .cpus import Cpus, print_list
-from .script import Refused, read_text, replace_file
+from .script import Refused, read_kept, replace_file
 
 RECORD_BYTES = 64 << 20
 Whole = Tuple[Optional[str], Optional[str]]  # all CPUs and all nodes, as lists
 
 
 def write_file(path: str, text: str) -> Optional[str]:
-    """One write of the system; why it was refused, or nothing."""
+    """One write of the system; why it was refused, or nothing. A path or a text that can't be one of the system's is refused too."""
     try:
-        file = os.open(path, os.O_WRONLY | os.O_TRUNC)
+        file = os.open(path, os.O_WRONLY | os.O_TRUNC | os.O_NONBLOCK)
         try:
             os.write(file, f"{text}\n".encode())
         finally:
             os.close(file)
-    except OSError as why:
-        return f"{path}: {why.strerror}"
+    except (OSError, ValueError) as why:
+        return f"{path}: {getattr(why, 'strerror', None) or why}"
     return None
 
 
@@ -59,7 +59,7 @@ def read_record(work: str) -> Record:
     """What an agent before has kept; nothing where that is no such record."""
     record = Record(os.path.join(work, "taken.json"))
     try:
-        found = parse_text(read_text(record.path, RECORD_BYTES), record.path)
+        found = parse_text(read_kept(record.path, RECORD_BYTES), record.path)
     except Refused:
         return record
     record.whole = whole_of(found.get("all"))
@@ -74,9 +74,14 @@ def read_record(work: str) -> Record:
 
 
 def whole_of(found: object) -> Whole:
-    if isinstance(found, list) and len(found) == 2 and all(isinstance(text, str) for text in found):
+    if isinstance(found, list) and len(found) == 2 and all(is_text(text) for text in found):
         return found[0], found[1]
     return None, None
+
+
+def is_text(found: object) -> bool:
+    """Whether it is a text that can stand in a file: one in UTF-8 has no halves of surrogate pairs."""
+    return isinstance(found, str) and not any("\ud800" <= sign <= "\udfff" for sign in found)
 
 
 def is_named(path: str, paths: object) -> bool:
@@ -87,7 +92,7 @@ def taken_of(entry: object, listed: bool = False) -> Optional[Taken]:
     if not isinstance(entry, list) or len(entry) not in (4, 5):
         return None
     inode, cpus, nodes, system = entry[:4]
-    texts = all(text is None or isinstance(text, str) for text in (cpus, nodes))
+    texts = all(text is None or is_text(text) for text in (cpus, nodes))
     return Taken(inode, cpus, nodes, bool(system), limit_of(entry[4:]), listed) if isinstance(inode, int) and texts else None
 
 

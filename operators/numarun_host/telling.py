@@ -5,7 +5,7 @@ from __future__ import annotations
 import re
 from collections import Counter
 from dataclasses import dataclass, field
-from typing import Dict, Optional, Tuple, Union
+from typing import Dict, Optional, Set, Tuple, Union
 
 from .commands import Ask, Level, Say, Steps, Tell, Verb
 from .configs import Demand
@@ -13,8 +13,11 @@ from .cpus import Cpus, read_list
 from .ledger import Kind, Ledger, Sighting, Topic, report
 from .seen import Group, Look
 
-NO_PIDS, KERNEL_FAULT, NOT_FREE, BAD_LINE, NO_BUNDLE = 45, 50, 104, 110, 111
+NO_MEMORY, NO_PIDS, KERNEL_FAULT, NOT_FREE, NO_STRANGER, BAD_LINE, NO_BUNDLE = 1, 45, 50, 104, 105, 110, 111
 CONFIG_FAULTS = range(55, 68)  # a config that can't be had
+WHY_NOT_NOW: Dict[Optional[int], str] = {
+    NO_BUNDLE: "can't be read", NO_PIDS: "E45 NoPids: told again in another run", NO_MEMORY: "numarun has not enough memory to be told of it",
+}
 
 
 @dataclass
@@ -26,6 +29,7 @@ class Turn:
     there: Dict[str, Sighting] = field(default_factory=dict)
     on_the_way: Dict[str, str] = field(default_factory=dict)  # by a group of the system the pinned container below it
     owners: Dict[str, str] = field(default_factory=dict)      # by a group the container that numarun was told of
+    coming: Set[str] = field(default_factory=set)             # the groups of those that come, until each is told of
     users: Optional[Counter[int]] = None  # how many groups request each CPU
     spare: Optional[Cpus] = None          # the CPUs that are promised to nobody
     unsaved: bool = False                 # whether what was taken has changed
@@ -62,7 +66,7 @@ class Reply:
     @property
     def fault(self) -> Optional[int]:
         """The number of a refusal."""
-        found = re.match(r"refused E(\d{2,3}) ", self.first)
+        found = re.match(r"refused E(\d{1,3}) ", self.first)
         return int(found[1]) if found else None
 
     @property
@@ -72,21 +76,30 @@ class Reply:
 
     @property
     def is_momentary(self) -> bool:
-        """Whether it may do another time: a write, a copy of a config that can't be read, or another run that has pids."""
-        return self.fault in (NO_PIDS, KERNEL_FAULT, NO_BUNDLE)
+        """Whether it may do another time: a write, a copy of a config that can't be read, another run that has pids, or memory."""
+        return self.fault in WHY_NOT_NOW or self.fault == KERNEL_FAULT
 
 
 def ask(ledger: Ledger, command: Union[Ask, Tell], quiet: bool = False) -> Steps[Reply]:
-    """A command's answer. What numarun says beside it is said, but for why a write was refused."""
+    """A command's answer. What numarun says beside it is said, but for why a write was refused. Who is a container by it is a stranger no more."""
     answer = yield command
-    ledger.ending = ledger.ending or answer.ending
-    reply = Reply(answer.lines, answer.notes[-1] if answer.notes else answer.lines[0])
+    ledger.ending, ledger.ends_at_once = ledger.ending or answer.ending, ledger.ends_at_once or answer.at_once
+    notes = [titled(ledger, note) for note in answer.notes]
+    reply = Reply(answer.lines, notes[-1] if notes else answer.lines[0])
     if reply.fault == KERNEL_FAULT:
         ledger.counts["refused_writes_total"] += 1
     ledger.spent = ledger.spent or reply.fault == NO_PIDS
-    for note in () if quiet or reply.fault == KERNEL_FAULT else answer.notes:
+    if isinstance(command, Tell) and command.verb is not Verb.UPDATE and reply.fault is None:
+        ledger.strangers.pop(command.name, None)
+    for note in [] if quiet or reply.fault == KERNEL_FAULT else notes:
         yield Say(f"note {note}", Level.NOTICE)
     return reply
+
+
+def titled(ledger: Ledger, note: str) -> str:
+    """What numarun said of a file, which is named by its group: by what the log calls the container."""
+    name, slash, rest = note.partition("/")
+    return f"{ledger.title(name)}{slash}{rest}"
 
 
 def requested(ledger: Ledger, name: str) -> Steps[Tuple[Optional[Cpus], Optional[Cpus]]]:
@@ -100,8 +113,7 @@ def report_failure(ledger: Ledger, name: str, place: str, reply: Reply) -> Steps
     if reply.fault == KERNEL_FAULT:
         yield from report(ledger, Topic.CONTAINER, name, Kind.FAILED, reply.note)
     else:
-        why = "can't be read" if reply.fault == NO_BUNDLE else f"{reply.refusal}: told again in another run"
-        yield from report(ledger, Topic.CONTAINER, name, Kind.ABSENT, f"{ledger.title(name)}: {place}: {why}")
+        yield from report(ledger, Topic.CONTAINER, name, Kind.UNTOLD, f"{ledger.title(name)}: {place}: {WHY_NOT_NOW[reply.fault]}")
 
 
 def tell_update(turn: Turn, name: str, demand: Demand, quiet: bool = False) -> Steps[bool]:
@@ -111,6 +123,7 @@ def tell_update(turn: Turn, name: str, demand: Demand, quiet: bool = False) -> S
     if reply.first == "ok":
         cpus, nodes = yield from requested(ledger, name)
         ledger.change(name, given=demand, cpus=cpus, nodes=nodes)
+        ledger.settle(Topic.CONTAINER, name, Kind.UNTOLD, Kind.FAILED)
         if not quiet:
             yield Say(f"update {ledger.title(name)} {place}")
         ledger.end_pause("update")
@@ -120,5 +133,6 @@ def tell_update(turn: Turn, name: str, demand: Demand, quiet: bool = False) -> S
         ledger.begin_pause("update", "", turn.now)
         yield from report_failure(ledger, name, place, reply)
     else:
-        yield from report(ledger, Topic.CONTAINER, name, Kind.REFUSED, f"{reply.refusal}: {ledger.title(name)} {place}: it stays as it was")
+        ledger.settle(Topic.CONTAINER, name, Kind.UNTOLD, Kind.FAILED)
+        yield from report(ledger, Topic.DEMAND, name, Kind.REFUSED, f"{reply.refusal}: {ledger.title(name)} {place}: it stays as it was")
     return False
