@@ -28,16 +28,23 @@ siblings() {
     for ((k = 0; k < $1; k++)); do echo 'find 0 container-x'; done
 }
 
-# 1,024 containers of three CPUs, each of which is to have those of the next one, the last those of the first
+# 1,024 containers of three CPUs, each of which is to have those of the next one, the last those of the first; and as many that are
+# to change places in pairs
 work=$(mktemp -d)
 trap 'rm -rf "$work"' EXIT
 echo '{"nodes": ["0-4095"], "distances": [[10]], "reserved": "0"}' >"$work/machine.json"
 place() { echo "$((3 * ($1 % 1024) + 1))-$((3 * ($1 % 1024) + 3))"; }
+# bundle NAME K: a bundle whose container is to have the CPUs of place K
+bundle() {
+    mkdir "$work/$1"
+    printf '{"ociVersion": "1.0.2", "root": {"path": "r"}, "linux": {"resources": {"cpu": {"cpus": "%s"}}}}' "$(place "$2")" >"$work/$1/config.json"
+}
 for ((k = 0; k < 1024; k++)); do
-    mkdir "$work/b$k"
-    printf '{"ociVersion": "1.0.2", "root": {"path": "r"}, "linux": {"resources": {"cpu": {"cpus": "%s"}}}}' "$(place $((k + 1)))" >"$work/b$k/config.json"
+    bundle "b$k" $((k + 1))
     echo "adopt c$k b$k $(place "$k")" >>"$work/there"
     echo "create c$k b$k" >>"$work/new"
+    bundle "p$k" $((k ^ 1))
+    echo "adopt c$k p$k $(place "$k")" >>"$work/paired"
 done
 
 # steps COUNT: the lines of so many steps of their hand-over
@@ -47,8 +54,10 @@ steps() {
     for ((k = 0; k < $1; k++)); do echo step; done
 }
 
-# moved COUNT: the lines of a plan for them, handed over once or not at all; and for containers that come to these CPUs
+# moved COUNT: the lines of a plan for them, handed over once or not at all; for those in pairs; and for containers that come to
+# these CPUs
 moved() { cat "$work/there" && whole "$1"; }
+pairs() { cat "$work/paired" && whole "$1"; }
 first() { cat "$work/new" && whole "$1"; }
 whole() { [ "$1" -gt 0 ] && echo 'rebalance direct' || echo 'begin direct'; }
 
@@ -57,7 +66,7 @@ counted() {
     local words=("$tools" "$1" "$2") lines=
     case $1 in
     chain | siblings) words=("$tools" kernel 0) lines=$("$1" "$2") ;;
-    steps | moved | first) words=("$program" run machine.json) lines=$("$1" "$2") ;;
+    steps | moved | pairs | first) words=("$program" run machine.json) lines=$("$1" "$2") ;;
     esac
     (cd "$work" && valgrind --tool=callgrind --callgrind-out-file=/dev/null "${words[@]}" <<<"$lines" 2>&1 >/dev/null) |
         awk '/Collected/ { print $4 }'
@@ -80,5 +89,6 @@ takes 'a look for a name that none of 1,000 groups has, with its line' siblings 
 takes 'a hand-over of 1,024 containers, 2,048 writes' hand-overs 0 1 560000000
 takes 'a step of a direct one that takes a target' steps 100 900 4000000
 takes 'a direct hand-over of 1,024 containers in a ring, 1,025 writes' moved 0 1 30000000
+takes 'a direct hand-over of 1,024 containers in 512 rings of two, 1,536 writes' pairs 0 1 33000000
 takes 'a direct hand-over of 1,024 containers that come' first 0 1 6000000
 exit "$failed"

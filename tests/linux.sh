@@ -4,7 +4,8 @@
 # are only unpacked. Where it can't, it says so and is passed over. PROGRAM and TOOLS in the environment are run in place of those that this
 # builds. PARTS are the parts of linux/parts/ that are run, behind a slash which share of their work is done: `killed/4` is every
 # fourth call. MACHINES of them run side by side, SEED chooses what is random, KERNEL is an image in place of Debian's, LIMIT the
-# seconds that a machine has, KEEP a folder for all that the machines print, and CPUS how many CPUs it has in place of 8, for `direct`.
+# seconds that a machine has in place of 2,100, since a part may take 1,800, KEEP a folder for all that the machines print, and CPUS how
+# many CPUs it has in place of 8, for `direct`.
 set -euo pipefail
 top=$(cd "$(dirname "$0")/.." && pwd)
 parts=(${PARTS:-gone strangers calls/4 refused/4 killed/4})
@@ -27,10 +28,10 @@ has() {
 }
 
 inside=crun desk='' packages='' daemons='' libraries='' megabytes=320
-! has podman walk || inside+=" podman conmon"
+! has podman walk partition_page || inside+=" podman conmon"
 ! has runc containerd docker || inside+=" runc"
 ! has docker || inside+=" dash"
-! has walk || desk=--desk
+! has walk partition_page || desk=--desk
 if has containerd docker; then
     packages=containerd daemons="usr/bin/containerd usr/bin/ctr usr/bin/containerd-shim-runc-v2" megabytes=512
 fi
@@ -72,11 +73,13 @@ daemons=$(printf "$work/unpacked/%s " $daemons)
 
 root=$work/root
 gcc -O2 -shared -fPIC -o "$work/stop.so" "$top/tests/linux/stop.c"
-for name in sleeper looker; do
+for name in sleeper looker ticks; do
     gcc -O2 -static -o "$work/$name" "$top/tests/linux/$name.c"
 done
+python=/usr/bin/python3 # the machine gets the interpreter that makes its image: Debian's, since one of a user's own may be half as fast
+[ -x "$python" ] || python=python3
 # shellcheck disable=SC2046,SC2086 # they are words
-python3 -B "$top/tests/linux/image.py" "$root" $desk "$program" "$work/stop.so" "$work/sleeper" "$work/looker" $(command -v $inside) ${packages:+$daemons}
+"$python" -B "$top/tests/linux/image.py" "$root" $desk "$program" "$work/stop.so" "$work/sleeper" "$work/looker" $(command -v $inside) ${packages:+$daemons}
 for part in "${parts[@]}"; do
     if [ "${part%%/*}" = calls ]; then
         . "$top/benches/build-tools.sh"
@@ -88,8 +91,9 @@ done
 nodes=() each=$((cpus / 4)) threads=1 processor=max turns=multi clock=''
 if [ "$cpus" -gt 8 ]; then
     turns=single # one thread for all CPUs: of many threads those that wait for another take the host's processors from it
-    clock="tsc=reliable lpj=10000000" # else each CPU is measured when it comes, for seconds, and each look at the clock is one at a device
 fi
+ticks=$("$work/ticks") # thousands a second: else each CPU is measured when it comes, for seconds, and each look at the clock is one at a device
+[ -z "$ticks" ] || clock="tsc=reliable tsc_early_khz=$ticks lpj=$((4 * ticks))" # as many loops as ticks in a 250th of a second
 if has cores; then
     threads=2 processor=max,vendor=GenuineIntel # an AMD one tells of its threads by a feature that is not emulated
 fi
@@ -103,17 +107,23 @@ for row in 0,1,20 0,2,20 0,3,30 1,2,30 1,3,20 2,3,20; do
 done
 
 # emulate N PART..: a machine that runs these parts, which stand in a second archive behind the first; what it prints is in out-N,
-# and what the parts say is printed.
+# and what the parts say is printed. Where the kernel writes over its own code while it runs, the emulator may go on with a breakpoint
+# that is there no more: such a machine shows nothing, and is started anew. By QEMU 7.2 one boot of 28 ended so, but five of eight in
+# a row on Linux 6.12, three of them behind each other.
 emulate() {
-    local number=$1
+    local number=$1 tries=8 try
     shift
     mkdir "$work/$number"
     echo "$seed $*" >"$work/$number/parts"
     { cat "$work/initrd.gz"; cd "$work/$number" && echo parts | cpio -o -H newc --quiet | gzip -1; } >"$work/initrd-$number.gz"
-    timeout "${LIMIT:-900}" qemu-system-x86_64 -M q35 -cpu $processor -accel tcg,thread=$turns -m $((4 * megabytes)) -smp "$cpus,sockets=4,cores=$((each / threads)),threads=$threads" \
-        "${nodes[@]}" -nodefaults -display none -serial stdio -no-reboot -kernel "$kernel" -initrd "$work/initrd-$number.gz" \
-        -append "console=ttyS0 quiet panic=-1 loglevel=1 mitigations=off no_timer_check $clock rdinit=/init" </dev/null 2>&1 |
-        sed -u 's/\r$//' | tee "$work/out-$number" | grep -a --line-buffered '^linux: ' || true
+    for try in $(seq "$tries"); do
+        timeout "${LIMIT:-2100}" qemu-system-x86_64 -M q35 -cpu $processor -accel tcg,thread=$turns -m $((4 * megabytes)) -smp "$cpus,sockets=4,cores=$((each / threads)),threads=$threads" \
+            "${nodes[@]}" -nodefaults -display none -serial stdio -no-reboot -kernel "$kernel" -initrd "$work/initrd-$number.gz" \
+            -append "console=ttyS0 quiet panic=-1 loglevel=1 mitigations=off no_timer_check $clock rdinit=/init" </dev/null 2>&1 |
+            sed -u 's/\r$//' | tee "$work/out-$number" | grep -a --line-buffered '^linux: ' || true
+        grep -aq 'int3: 0000 \[#1\]' "$work/out-$number" || break
+        echo "linux: machine $number ended at a breakpoint that the emulator had left, at try $try of $tries"
+    done
 }
 
 count=${MACHINES:-1} machines=()

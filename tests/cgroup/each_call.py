@@ -47,9 +47,9 @@ for line in open(script):
 
 
 class Run:
-    """A run of the script in a new folder."""
+    """A run of the script, behind these lines, in a new folder."""
 
-    def __init__(self, words=(), folder=None, **preloaded):
+    def __init__(self, words=(), folder=None, first="", **preloaded):
         self.folder = folder or tempfile.mkdtemp()
         root, log = self.folder + "/root", self.folder + "/log"
         if not folder:
@@ -58,7 +58,7 @@ class Run:
         open(log, "w").close()
         settings = {"FOLDERS_" + name.upper(): str(value) for name, value in preloaded.items()}
         environment = dict(os.environ, LD_PRELOAD=preload, FOLDERS_ROOT=root, FOLDERS_LOG=log, **settings)
-        self.done = run([program, "run", machine, "--cgroup", root, *words], open(script, "rb").read(), env=environment)
+        self.done = run([program, "run", machine, "--cgroup", root, *words], first.encode() + open(script, "rb").read(), env=environment)
         self.out, self.err = self.done.stdout.decode(), self.done.stderr.decode()
         self.calls = open(log).read().splitlines()
         self.files = {}
@@ -200,8 +200,8 @@ for n in range(1, len(whole.calls) + 1):
         refused = Run(folder=ran.folder)
         assert (refused.done.returncode, refused.out) == (1, "refused E50 KernelFault\n"), refused.out
         assert f"error: {ran.folder}/root/numarun: File exists" in refused.err, refused.err
-    again = Run(("--adopt",), folder=ran.folder)
-    assert again.done.returncode == 0 and again.out == whole.out, (n, again.out, again.err)
+    again = Run(("--adopt",), folder=ran.folder, first="".join(f"forget {name}\n" for name in left))
+    assert again.done.returncode == 0 and again.out == "ok\n" * len(left) + whole.out, (n, again.out, again.err)
     named = sorted(line.split("/")[-1].split(" ")[0] for line in again.err.splitlines() if line.startswith("note: "))
     assert named == left, (n, named, left)
     ran.remove()

@@ -116,6 +116,17 @@ for name, make, words, wanted in TABLE:
 print(f"cgroup: {len(TABLE)} roots")
 
 
+def no_file(root):
+    """What a group of a run before holds can't be read."""
+    folder()(root)
+    os.makedirs(root + "/numarun/web/cpuset.cpus")
+
+
+got = played(no_file, ("--adopt",))
+assert got == unread("numarun/web/cpuset.cpus"), got
+assert played(no_file)[:2] == (1, "refused E50 KernelFault\n")
+
+
 def links(root):
     os.makedirs(root + "/numarun")
     os.mkdir(root + "/slice")

@@ -43,6 +43,9 @@ def files_of_python(more):
 
 
 def is_binary(path):
+    """Whether a file of the image is a program or a library. A link is none, as it leads to this host's own file."""
+    if os.path.islink(path):
+        return False
     with open(path, "rb") as file:
         return file.read(4) == b"\x7fELF"
 

@@ -74,6 +74,12 @@ def process(name):
     return pid, read(f"/proc/{pid}/cgroup").split("::")[1].strip("/")
 
 
+def kept(name, member):
+    """What runc's state has of what the group is to request."""
+    state = f"/run/docker/runtime-runc/moby/{docker('inspect', '-f', '{{.Id}}', name).split()[-1]}/state.json"
+    return json.loads(read(state))["config"]["cgroups"][member]
+
+
 def remove(*names):
     groups = [process(name)[1] for name in names]
     docker("rm", "-f", *names)

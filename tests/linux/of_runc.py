@@ -49,6 +49,11 @@ def process(name):
     return pid, read(f"/proc/{pid}/cgroup").split("::")[1].strip("/")
 
 
+def kept(name, member):
+    """What runc's state has of what the group is to request."""
+    return json.load(open(f"/run/runc/{name}/state.json"))["config"]["cgroups"][member]
+
+
 def delete(name):
     runc("delete", "--force", name)
     assert not os.path.exists(f"{ROOT}/{name}")

@@ -1,11 +1,17 @@
-// What a container runs here: nothing, until it is killed. `sleeper GROUP` goes into a group first, writes its number on standard
-// output, and is a child of the first process.
+// What a container runs here: nothing, until it is killed, or a loop without end once it has a SIGUSR1. `sleeper GROUP` goes into a
+// group first, writes its number on standard output, and is a child of the first process.
 #include <fcntl.h>
+#include <signal.h>
 #include <stdio.h>
 #include <unistd.h>
 
+static void work(int number) {
+    for (;;) {}
+}
+
 int main(int words, char **word) {
     char path[4096];
+    signal(SIGUSR1, work);
     if (words > 1) {
         if (fork()) return 0;
         setsid();

@@ -10,7 +10,8 @@ import time
 import tree
 from tree import ROOT, read, write
 
-FOLDER, WORK, OUT = "/tmp/watched", "/run/numarun", "/tmp/watched-out"
+FOLDER, WORK, OUT, RELEASE_OUT = "/tmp/watched", "/run/numarun", "/tmp/watched-out", "/tmp/release-out"
+PYTHON = ("/bin/python3", "-SEB")
 SECONDS = 600  # that the agent has for what it is waited for; an emulated machine may have little of a processor
 
 
@@ -61,8 +62,18 @@ def go(name, path):
 
 
 def words(*more):
-    return ["/bin/python3", "-SEB", f"{tree.REPOSITORY}/operators/numarun-agent", tree.MACHINE, "--patience", "900", "--pin", "all", "--pool-least", "0", "--program", tree.PROGRAM, "--cgroup", ROOT,
+    return [*PYTHON, f"{tree.REPOSITORY}/operators/numarun-agent", tree.MACHINE, "--patience", "900", "--pin", "all", "--pool-least", "0", "--program", tree.PROGRAM, "--cgroup", ROOT,
             "--work", WORK, *more]
+
+
+def stopped(killed_behind, below):
+    """The environment of a program that is killed behind its write of this number below a group, if there is one."""
+    return {**os.environ, **({"LD_PRELOAD": tree.STOP, "STOP_ROOT": below, "STOP_KILL": str(killed_behind)} if killed_behind else {})}
+
+
+def start(told, out, environment):
+    """A process with these words, which writes into this file."""
+    return subprocess.Popen(told, stdin=subprocess.DEVNULL, stdout=open(out, "a"), stderr=subprocess.STDOUT, env=environment)
 
 
 class Agent:
@@ -70,9 +81,7 @@ class Agent:
 
     def __init__(self, *more, watch=FOLDER, killed_behind=None, below=ROOT):
         watching = ["--watch", watch] if watch else []
-        stop = {"LD_PRELOAD": tree.STOP, "STOP_ROOT": below, "STOP_KILL": str(killed_behind)} if killed_behind else {}
-        self.process = subprocess.Popen(words(*watching, "--pause", "0.1", *more), stdin=subprocess.DEVNULL, stdout=open(OUT, "a"),
-                                        stderr=subprocess.STDOUT, env={**os.environ, **stop})
+        self.process = start(words(*watching, "--pause", "0.1", *more), OUT, stopped(killed_behind, below))
 
     def until(self, holds, what):
         """Waits until this holds."""
@@ -89,10 +98,12 @@ class Agent:
         self.process.wait()
 
 
-def release():
-    """Gives back all that was taken."""
+def release(killed_behind=None, below=ROOT):
+    """Gives back all that was taken, unless it is killed behind a write of its own."""
     command = [*words()[:3], "--release", "--cgroup", ROOT, "--work", WORK]
-    return subprocess.run(command, stdin=subprocess.DEVNULL, capture_output=True, text=True)
+    open(RELEASE_OUT, "w").close()
+    status = start(command, RELEASE_OUT, stopped(killed_behind, below)).wait()
+    return subprocess.CompletedProcess(command, status, read(RELEASE_OUT))
 
 
 def lines():

@@ -342,7 +342,7 @@ def recorded() -> None:
     check("a plan", site.run(*more)[0], 0)
     figures = dict(line.split(" ") for line in open(site.at("numarun.prom")).read().splitlines() if not line.startswith("#"))
     del figures["numarun_look_timestamp_seconds"]
-    expected = {"plans_total": "1", "moves_total": "5", "steps_total": "1", "waited_seconds_total": "0", "squeezed_seconds_total": "0", "shortages_total": "0", "refused_writes_total": "0", "distance": "61", "distance_beyond_local": "11",
+    expected = {"plans_total": "1", "moves_total": "5", "steps_total": "0", "waited_seconds_total": "0", "squeezed_seconds_total": "0", "shortages_total": "0", "refused_writes_total": "0", "distance": "61", "distance_beyond_local": "11",
                 "containers_pinned": "1", "containers_shared": "1", "containers_waiting": "0", "containers_squeezed": "0", "partition_valid": "1", "loose_processes": "0", "undone": "0"}
     check("its figures", figures, {f"numarun_{name}": figure for name, figure in expected.items()})
     site.come("big", 4)

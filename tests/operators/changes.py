@@ -15,7 +15,7 @@ from numarun_host.cpus import read_list
 from numarun_host.ledger import Ledger, Settings, Topic
 from numarun_host.machine import Machine
 from numarun_host.sightings import say_absent
-from trial import case, check
+from trial import case, check, text_of, written
 
 LEAST, STAY = "numarun.least", "numarun.stay"
 
@@ -248,25 +248,6 @@ def unseen_at_the_start() -> None:
     agent.until("update b")
     agent.until("done")
     check("b has what it names, and a others", (site.has("b"), count(site, "a"), site.has("c"), agent.end()), (["1-2"], 2, ["3"], (0, [])))
-
-
-@case
-def unseen_without_an_id() -> None:
-    """The same where it is not known any more who that was: there is no plan until it can be seen, or has ended."""
-    site = Site()
-    site.come("a", 2)
-    site.put("numarun/a", "cgroup.events", "populated 1")
-    site.run()
-    os.rename(site.at("g/a"), site.at("away"))
-    os.remove(site.at("work/tree/numarun/a"))
-    site.come("b", "1-2")
-    agent = Open(site)
-    line = agent.until("unseen")[-1]
-    check("a group of nobody", (line.split(":")[0], site.has("a", "b")), (f"unseen {site.at('root/numarun/a')}", ["1-2", "0"]))
-    os.rename(site.at("away"), site.at("g/a"))
-    lines = agent.until("done")
-    check("it is seen", (of(lines, "adopt"), agent.end()), ([f"adopt a {site.at('g/a')} 1-2"], (0, [])))
-    check("b has what it names, and a others", site.has("a", "b"), ["3-4", "1-2"])
 
 
 HIDES = """
@@ -508,3 +489,47 @@ def bounded_certificates() -> None:
     site.run("--certificates", site.at("kept"))
     kept = [name for name in os.listdir(site.at("kept")) if name.startswith("2020")]
     check("and 256 MiB", (kept, len(os.listdir(site.at("kept")))), ([], 3))
+
+
+PARTS_OF_DISTANCE = [[10, 255, 255, 255], [255, 10, 20, 20], [255, 20, 10, 255], [255, 20, 255, 10]]
+
+
+def partition_site() -> Site:
+    """A machine on which c can be on 7 or 2 alone, and a on 2 or 3, with a group that is to be a partition; CPU 0 is the system's."""
+    site = Site({"nodes": ["1,4-6", "2", "3", "7"], "distances": PARTS_OF_DISTANCE, "reserved": "1"})
+    site.online("0-7")
+    os.makedirs(site.at("root/pinned"))
+    for group, cpus in (("", "0-7"), ("pinned", "1-7")):
+        for file, text in (("cgroup.controllers", "cpuset"), ("cgroup.subtree_control", "cpuset"), ("cpuset.cpus.effective", cpus), ("cpuset.mems.effective", "0-3")):
+            written(site.at("root", group, file), f"{text}\n")
+    for file, text in (("cpuset.cpus", "1-7"), ("cpuset.cpus.partition", "member")):
+        written(site.at("root/pinned", file), f"{text}\n")
+    for name, count, node in (("a", 1, "1"), ("c", 1, "3"), ("d", 2, "0")):
+        cpu = {"quota": count * QUOTA, "period": QUOTA, "mems": node}
+        site.come(name, linux={"resources": {"cpu": cpu}, "cgroupsPath": f"/pinned/numarun/{name}"})
+    return site
+
+
+def in_partition(site: Site, *names: str) -> List[str]:
+    return [site.file(f"pinned/numarun/{name}") for name in names]
+
+
+@case
+def smaller_file() -> None:
+    """A machine file that lacks CPUs by now which containers of the partition have. Each leaves them by one write for CPUs as many, also one that waits for
+    another one's, and then the partition gives them up; with the file before it has them again at once."""
+    site = partition_site()
+    whole, words = text_of(site.at("machine.json")), ("--partition", "pinned")
+    site.run(*words, rounds="2")
+    check("at first", (in_partition(site, "a", "c", "d"), site.file("pinned", "cpuset.cpus.partition")), (["2", "7", "4-5"], "root"))
+    site.log()
+    site.put_whole(site.at("machine.json"), whole.replace("1,4-6", "1,4,6").replace('"7"', '""'))
+    status, lines = site.run(*words, rounds="2")
+    taken_up = ["a 2", "c 7", "d 4-5"]  # an `adopt` writes what the container has
+    check("what is written", (status, sorted(site.log())), (0, sorted([*taken_up, "a 3", "c 2", "d 4,6"])))
+    shrunk = f"partition {site.at('root/pinned')}: 1-4,6 in place of 1-7"
+    check("in this order", [line for line in lines if line in ("done", shrunk)], ["done", shrunk])
+    check("the partition", site.file("pinned"), "1-4,6")
+    check("nothing else at the next agent", (site.run(*words, rounds="2")[0], sorted(site.log()), site.file("pinned")), (0, ["a 3", "c 2", "d 4,6"], "1-4,6"))
+    site.put_whole(site.at("machine.json"), whole)
+    check("the file before", (site.run(*words, rounds="2")[0], site.file("pinned"), in_partition(site, "a", "c")), (0, "1-7", ["2", "7"]))

@@ -47,7 +47,12 @@ REFUSED: Dict[str, str] = {
     "runtime = [5]": "runtime: '5' is no runtime: docker, ",
     "watcch = 1": "watcch: no option of a file (see --help)",
     "pool_least = 1": "pool_least: no option of a file (see --help)",
-    "pool = 2020-01-01": "pool: no text",
+    "pool = 2020-01-01": "pool: neither a number nor a text",
+    "pool = '\"'": "pool: '\"' is no command: No closing quotation",
+    'pool = "  "': "pool: '  ' is no command: it has no words",
+    'pool = "a\\u0000b"': "pool: a NUL",
+    'watch = ["a", "\\u0000"]': "watch: a NUL",
+    'machine = "\\u0000"': "machine: a NUL",
     "rounds = 1": "rounds: no option of a file (see --help)",
     "release = true": "release: no option of a file (see --help)",
     'config = "x"': "config: no option of a file (see --help)",
@@ -60,10 +65,14 @@ REFUSED: Dict[str, str] = {
 }
 
 
-def written(site: Site, text: str) -> str:
-    with open(site.at("agent.toml"), "w", encoding="utf-8") as file:
+def put(path: str, text: str) -> str:
+    with open(path, "w", encoding="utf-8") as file:
         file.write(text)
-    return site.at("agent.toml")
+    return path
+
+
+def written(site: Site, text: str) -> str:
+    return put(site.at("agent.toml"), text)
 
 
 def said(site: Site) -> str:
@@ -98,7 +107,7 @@ def as_if_said() -> None:
     status, out, err = told("numarun-agent", "release", "--config", path)
     check("and releases", (status, err, site.has("a"), site.file("numarun/a", "cpu.max")), (0, "", [""], "200000 100000"))
     status, out, err = told("numarun-agent", "check-config", "--config", path)
-    check("check-config", (status, out, err), (0, f"{site.at('machine.json')}: 8 CPUs on 1 nodes, reserved 0, and 0 are left to the pool\n", ""))
+    check("check-config", (status, out, err), (0, f"{site.at('machine.json')}: 8 CPUs on 1 node, reserved 0, and 0 are left to the pool\n", ""))
 
 
 @case
@@ -116,6 +125,25 @@ def refused() -> None:
     refuses("numarun-agent", site.at("machine.json"), "--config", site.at("g"), says=f"{site.at('g')}: Is a directory")
     check("no machine file", told("numarun-agent", "--config", written(site, "pause = 1"))[0], 2)
     check("words that go with others", told("numarun-agent", site.at("machine.json"), "--config", written(site, 'rest = "x"'))[0], 2)
+
+
+@case
+def words_in_files() -> None:
+    """What `@FILE` names, whose words stand in a file, is refused with its path and the line, as a word is that can't be had."""
+    site = Site()
+    path, other = site.at("words"), site.at("others")
+    for text, says in ((b"--pin all\n--pool '\n", f"{path}: line 2: No closing quotation"), (b"--pin all\n--pool x\\", f"{path}: line 2: No escaped character"),
+                       (b"--pin \xff\n", f"{path}: byte 6: not UTF-8"), (b"--watch a\0b", f"{path}: line 1: a NUL"), (b" " * (2 << 20), f"{path}: more than 1048576 bytes"),
+                       (f"--pin all @{path}".encode(), f"{path}: it names itself"), (f"@{other}".encode(), f"{other}: No such file or directory"),
+                       (b"--pool '\"'", "argument --pool: '\"' is no command: No closing quotation")):
+        with open(path, "wb") as file:
+            file.write(text)
+        status, out, err = told("numarun-agent", "check-config", site.at("machine.json"), f"@{path}")
+        check(f"{text[:40]!r}", (status, out, err.endswith(f"numarun-agent: error: {says}\n")), (2, "", True))
+    put(other, "--pause 5 --watch 'a b'  # some more\n")
+    for line in (f"--pin all  # as here\n@{other}\n", f"@{other} --pin all @{other}"):
+        found = vars(agent.words_of([f"@{put(path, line)}", site.at("machine.json")]))
+        check("files in files", [found[name] for name in ("pin", "pause", "machine")] + [set(found["watch"])], ["all", 5.0, site.at("machine.json"), {"a b"}])
 
 
 @case

@@ -13,16 +13,16 @@ from typing import Any, Dict, List, Mapping, Optional, Sequence, Tuple, Type
 
 import mutants
 from trial import OPERATORS, case, check, scratch, text_of, written
-from numarun_host import cgroups, configs, homes, log, memory, placing, pool, reports, sightings, slices, telling
+from numarun_host import cgroups, configs, homes, log, memory, placing, plans, pool, reports, sightings, slices, states, telling
 from numarun_host.commands import Answer, Ask, Command, LeaveFigures, LeaveState, Level, LookAtPartition, RunPool, SaveTaken, Say, SetLimit, Start, Steps, T, Taken, Tell, Write
 from numarun_host.configs import Demand, Pin
-from numarun_host.cpus import Cpus, print_list, read_list
+from numarun_host.cpus import Cpus, counted, print_list, read_list
 from numarun_host.decide import answer_to_hook, at_the_end, decide, figures_of, reserved_of, squeezed_of
 from numarun_host.ledger import Container, Kind, Ledger, Pause, Problem, Settings, Sighting, State, Topic, is_undone, report, say_unsaid
 from numarun_host.machine import Machine
 from numarun_host.partition import Layout, Loose, Partition
 from numarun_host.script import Refused
-from numarun_host.seen import Double, Folder, Found, Group, Look, Missing, NoGroup, Online, Told
+from numarun_host.seen import Double, Folder, Found, Group, Look, Missing, NoGroup, Online, Told, Unread
 from numarun_host.telling import Reply, Turn
 
 # Four nodes of two cores with two CPUs each; 0 is at 15 from 1, and 2 from 3.
@@ -333,9 +333,10 @@ def demands() -> None:
     check("refused by numarun", placing.demand_of(turn, sighting(config=config_of(cpus="x"))), Demand(config_of(cpus="x"), None))
     check("by its group", placing.demand_of(turn, dataclasses.replace(seen, limit=(4 * QUOTA, QUOTA), nodes=cpus("2"))), Demand(asks(4, mems="2"), 4))
     ledger = ledger_of(container("p", State.PINNED, 2, cpus=cpus("2-3")), container("w", State.WAITING, None, cpus=cpus("0")))
-    check("free CPUs", placing.free_cpus(ledger), cpus("0-1,4-7"))
+    turn = Turn(ledger, Look(0.0))
+    check("free CPUs", placing.free_cpus(turn), cpus("0-1,4-7"))
     ledger.running = cpus("1-5")
-    check("of those that run, and the reserved ones", placing.free_cpus(ledger), cpus("0-1,4-5"))
+    check("of those that run, and the reserved ones", placing.free_cpus(turn), cpus("0-1,4-5"))
 
 
 @case
@@ -543,6 +544,11 @@ def problems() -> None:
     check("said", [tell(Kind.WAITS, "x"), tell(Kind.WAITS, "x"), tell(Kind.WAITS, "y"), tell(Kind.FAILED, ": y")], [["waits x"], [], ["waits y"], ["failed: y"]])
     ledger.unsaid.add((Topic.CONTAINER, "a"))
     check("what was not said yet", [tell(Kind.FAILED, ": y"), tell(Kind.FAILED, ": y")], [["failed: y"], []])
+    ledger.problems[Topic.PLAN, ""] = Problem(Kind.FAILED, "", "f")
+    check("of a plan and of a container", (tell(Kind.FAILED, "f"), ledger.problem(Topic.CONTAINER, "a")), ([], Kind.FAILED))
+    ledger.unsaid.add((Topic.PLAN, ""))
+    del ledger.problems[Topic.CONTAINER, "a"]
+    check("of one of which it was not said yet", tell(Kind.FAILED, "f"), ["failed f"])
     check("status", [is_undone(ledger, told) for told in (True, False)], [True, True])
     for kind, expected in ((Kind.WAITS, False), (Kind.KEEPS, False), (Kind.FEWER, False), (Kind.SHORT, True), (Kind.STAYS, True)):
         ledger.problems = {(Topic.CONTAINER, "a"): Problem(kind, "a", "")}
@@ -551,9 +557,9 @@ def problems() -> None:
     check("what is outside never counts", is_undone(ledger, False), False)
     ledger.problems = {}
     check("none", is_undone(ledger, False), False)
-    for part in ("due", "wrong"):
+    for part, told in (("due", False), ("wrong", True)):
         setattr(ledger, part, True)
-        check(part, is_undone(ledger, True), True)
+        check(part, (is_undone(ledger, True), is_undone(ledger, False)), (told, True))
         setattr(ledger, part, False)
     ledger.problems = {(Topic.STAYS, name): Problem(Kind.STAYS, name, name) for name in ("b", "a")}
     ledger.unsaid = set(ledger.problems)
@@ -730,7 +736,13 @@ def left_for_others() -> None:
     commands, ledger = looked(ledger, online=off, now=30.0)
     check("done", ledger.problems, {})
     for root, expected in (("/t", [True]), (None, [])):
-        check(f"at the end, {root}", [command.ended for command in at_the_end(ledger_of(root=root)) if isinstance(command, LeaveState)], expected)
+        check(f"at the end, {root}", [command.ended for command in at_the_end(ledger_of(root=root), told_to_end=False) if isinstance(command, LeaveState)], expected)
+    for due, tried, told, line in (
+        (True, ["hold a 1"], True, ["note the hand-over to the last plan has not ended: the next agent takes it up"]), (True, None, True, ["note a plan is due: the next agent begins with it"]),
+        (True, ["hold a 1"], False, []), (False, None, True, [])):
+        ledger = ledger_of()
+        ledger.due, ledger.tried = due, tried
+        check(f"due {due} {tried}, told to end {told}", said(at_the_end(ledger, told)), line)
 
 
 @case
@@ -762,6 +774,8 @@ def silent_folders() -> None:
         lines.append(said(commands))
     check("what is said", lines, [["note /f: no such folder yet"], [], [], ["note /f: none of its 2 entries is a container, as x"], [], [], [],
                                   ["note /f: no such folder yet"]])
+    ledger = looked(ledger_of(), folders=(Folder("/f", True, 1, 0, "x"),))[1]
+    check("one entry", said(looked(ledger, folders=(Folder("/f", True, 1, 0, "x"),))[0]), ["note /f: its 1 entry is no container, as x"])
     for folder in (Folder("/f", True, 2, 1), Folder("/f", True)):
         ledger = ledger_of()
         for _ in range(3):
@@ -828,16 +842,18 @@ def no_reserved_left() -> None:
 @case
 def told_wrong() -> None:
     """What is no event, a folder that can't be looked at, an id that is told twice, and how the command of --pool ended."""
-    ledger = ledger_of()
-    commands, ledger = looked(ledger, wrong=("line 1: x",), fault="/f: no", doubles=(Double("a", "/f/a", "/g/a"),), pool_command="sh 1", pool_fault="status 1")
+    ledger, no = ledger_of(), Unread("/f", "/f: no")
+    commands, ledger = looked(ledger, wrong=("line 1: x",), unread=(no,), doubles=(Double("a", "/f/a", "/g/a"),), pool_command="sh 1", pool_fault="status 1")
     check("said", said(commands), ["refused: line 1: x", "failed /f: no; looks again", "refused: its id is told by /g/a too: a /f/a", "failed sh 1: status 1"])
     check("left undone", (ledger.wrong, len(ledger.problems)), (True, 3))
-    commands, ledger = looked(ledger, fault="/f: no", doubles=(Double("a", "/f/a", "/g/a"),))
+    commands, ledger = looked(ledger, unread=(no,), doubles=(Double("a", "/f/a", "/g/a"),))
     check("as long as it is the same", (said(commands), len(ledger.problems)), ([], 3))
     commands, ledger = looked(ledger, pool_command="sh 1")
     check("all done", (said(commands), ledger.problems), ([], {}))
-    commands, _ = looked(ledger, fault="/f: no")
-    check("and again", said(commands), ["failed /f: no; looks again"])
+    commands, ledger = looked(ledger, unread=(no, Unread("/g", "/g: no folder")))
+    check("two of them", said(commands), ["failed /f: no; looks again", "failed /g: no folder; looks again"])
+    commands, ledger = looked(ledger, unread=(no,))
+    check("of which one can be read", (said(commands), list(ledger.problems)), ([], [(Topic.LOOK, "/f")]))
 
 
 @case
@@ -881,15 +897,19 @@ def figures_now_and_then() -> None:
 def what_is_known() -> None:
     """What `status` is answered, and when that is left anew."""
     waits = Problem(Kind.WAITS, "w", "w: no place")
-    ledger = ledger_of(container("p", State.PINNED, 2, cpus=cpus("1-2"), nodes=cpus("0")), dataclasses.replace(container("w", State.WAITING), demand=Demand(asks(3), 3)))
-    ledger.problems, ledger.titles, ledger.running, ledger.pool = {(Topic.CONTAINER, "w"): waits}, {"w": "web(1)"}, cpus("0-6"), cpus("0,3-6")
+    ledger = ledger_of(container("p", State.PINNED, 2, cpus=cpus("1-2"), nodes=cpus("0")), dataclasses.replace(container("w", State.WAITING), demand=Demand(asks(3), 3), certificate="/c/1"))
+    ledger.problems, ledger.titles, ledger.running, ledger.pool = {(Topic.ROOM, "w"): waits}, {"w": "web(1)"}, cpus("0-6"), cpus("0,3-6")
     ledger.taken = {"/t/p": Taken(1, "", "", False, (7, 8)), "/t/w": Taken(1, "", "", False)}
     known = reports.status_of(ledger)
     check("of all", [known[name] for name in ("reserved", "offline", "pool", "plan")], ["0", "7", "0,3-6", None])
     check("of containers", known["containers"], [
-        {"id": "p", "title": "p", "state": "pinned", "group": "/t/p", "cpus": "1-2", "nodes": "0", "asks": 2, "given": 2, "lifted": "7 8", "why": ""},
-        {"id": "w", "title": "web(1)", "state": "waiting", "group": "/t/w", "cpus": "-", "nodes": "-", "asks": 3, "given": None, "lifted": "", "why": "waits w: no place"}])
+        {"id": "p", "title": "p", "state": "pinned", "group": "/t/p", "cpus": "1-2", "nodes": "0", "asks": 2, "given": 2, "lifted": "7 8", "why": "",
+         "certificate": ""},
+        {"id": "w", "title": "web(1)", "state": "waiting", "group": "/t/w", "cpus": "-", "nodes": "-", "asks": 3, "given": None, "lifted": "", "why": "waits w: no place",
+         "certificate": "/c/1"}])
     check("left undone", known["undone"], [{"kind": "waits", "of": "w", "line": "waits w: no place"}])
+    ledger.problems[Topic.CONTAINER, "w"] = Problem(Kind.UNTOLD, "w", "w: /b: can't be read")
+    check("one that can't be told of", [entry["kind"] for entry in reports.status_of(ledger)["undone"]], ["waits", "absent"])  # type: ignore[attr-defined]
     ledger.counts.update(plans_total=1, distance=40, distance_beyond_local=20)
     ledger.certificate = "/c"
     check("of the plan", reports.status_of(ledger)["plan"], {"total": 40, "beyond_local": 20, "certificate": "/c"})
@@ -908,15 +928,14 @@ def hooks() -> None:
     ledger = ledger_of(container("p", State.PINNED, 1, cpus=cpus("1")), container("s", State.SHARED, cpus=cpus("0,2-7")), container("w", State.WAITING, cpus=cpus("0")),
                        container("q", State.ASKING, 1, cpus=cpus("0")), container("k", State.KEPT, 1, cpus=cpus("2")), container("n", State.PINNED, 1),
                        container("v", State.WAITING, cpus=cpus("0")))
-    ledger.problems = {(Topic.CONTAINER, "w"): waits, (Topic.CONTAINER, "r"): Problem(Kind.REFUSED, "r", ": r"), (Topic.CONTAINER, "f"): Problem(Kind.FAILED, "f", "f"),
-                       (Topic.CONTAINER, "a"): Problem(Kind.ABSENT, "a", "a"), (Topic.CONTAINER, "k"): Problem(Kind.REFUSED, "k", "k")}
+    ledger.problems = {(Topic.ROOM, "w"): waits, (Topic.DEMAND, "r"): Problem(Kind.REFUSED, "r", ": r"), (Topic.CONTAINER, "f"): Problem(Kind.FAILED, "f", "f"),
+                       (Topic.CONTAINER, "a"): Problem(Kind.ABSENT, "a", "a"), (Topic.DEMAND, "k"): Problem(Kind.REFUSED, "k", "k")}
     expected = {"p": ("pinned", "pinned p 1"), "s": ("shared", "shared s 0,2-7"), "w": ("no place", "no place waits w: no place"), "q": None, "r": ("refused", "refused: r"),
                 "f": ("failed", "failed f"), "a": None, "k": ("refused", "refused k"), "n": None, "nobody": None, "v": None}
     for name, answer in expected.items():
         check(f"of {name}", answer_to_hook(ledger, name), answer and {"answer": answer[0], "text": answer[1]})
-    ledger.unsaid.add((Topic.CONTAINER, "w"))
     ledger.due = True
-    check("a plan is due", [answer_to_hook(ledger, name) for name in "pw"], [None, None])
+    check("a plan is due", [answer_to_hook(ledger, name) for name in "ps"], [None, None])
 
 
 @case
@@ -988,6 +1007,33 @@ def lists_of_updates() -> None:
 
 
 @case
+def nodes_of_updates() -> None:
+    """Which nodes are those of an update by its runtime: others than its config's, which the machine has, or those that were seen last in this very group."""
+    rows: Sequence[Tuple[str, Optional[str], Config, Optional[str], int, Optional[str], Optional[str]]] = (
+        ("none", None, {}, None, 1, "/f", None), ("its config's", "0,1", config_of(mems="0-1"), None, 1, "/f", None), ("an update's", "2", config_of(mems="1"), None, 1, "/f", "2"),
+        ("where the config has none", "2", {}, "3", 1, "/f", "2"), ("forgotten", "", {}, "3", 1, "/f", "3"), ("of another group", "", {}, "3", 2, "/f", None), ("no list", "x", {}, None, 1, "/f", None),
+        ("none that the machine has", "2,4", {}, None, 1, "/f", None), ("the system's", "2", {}, "3", 1, None, None),
+    )
+    for name, told, config, before, inode, folder, expected in rows:
+        ledger = ledger_of(container("a", State.PINNED, 1), members=FOUR)
+        ledger.change("a", seen=dataclasses.replace(ledger.containers["a"].seen, named=cpus(before) if before else None))
+        found = Found(Told("/b", folder, nodes=told), ("s",), config, Group("/t/a", inode))
+        check(name, sightings.nodes_by_update(ledger, "a", found), cpus(expected) if expected else None)
+    found = Found(Told("/b", "/f", nodes="2"), ("s",), {}, Group("/t/a", 1, nodes=cpus("1")))
+    check("without a tree", sightings.nodes_by_update(ledger_of(root=None, members=FOUR), "a", found), None)
+    check("of one that comes", sightings.limits(ledger_of(members=FOUR), "a", found), (None, cpus("2")))
+
+
+@case
+def states_of_runc() -> None:
+    """What runc's state has of a container: its list of CPUs and its nodes, which may be empty ones."""
+    for cgroups_of, expected in (({}, (None, None)), ({"cpuset_cpus": "", "cpuset_mems": ""}, ("", "")), ({"cpuset_cpus": " 4-5\n", "cpuset_mems": " 2\n"}, ("4-5", "2")),
+                                 ({"cpuset_cpus": 4, "cpuset_mems": 2}, (None, None))):
+        kept = states.kept_by_runc({"config": {"labels": ["bundle=/b"], "cgroups": cgroups_of}}, "/s", "/")
+        check(f"{cgroups_of}", (kept.bundle, kept.listed, kept.nodes), ("/b", *expected))
+
+
+@case
 def as_before() -> None:
     """One of which no config can be read, and which the agent before held, while it has a process: pinned as it was known to be, or by what it requests."""
     for pinned, has, kept, populated, system, expected in (
@@ -1043,7 +1089,8 @@ def missing() -> None:
     outside, parts, none = Missing(told, "its group is not below /c", outside=True), Missing(told, "not JSON", in_parts=True), Missing(told, "no file")
     stays, absent = "stays a: not JSON; there is a process in its group", "absent a: not JSON"
     rows: Sequence[Tuple[str, Ledger, Missing, bool, Sequence[Sequence[str]]]] = (
-        ("outside", ledger_of(), outside, True, [["outside a: its group is not below /c"], []]), ("it runs", ledger_of(one), parts, True, [[stays], []]),
+        ("outside", ledger_of(), outside, True, [["outside a: its group is not below /c"], []]),
+        ("made anew outside", ledger_of(one), outside, True, [["outside a: its group is not below /c", "ended a"], [], []]), ("it runs", ledger_of(one), parts, True, [[stays], []]),
         ("it does not", ledger_of(one), parts, False, [["ended a"], [], [absent]]), ("a new one", ledger_of(), none, True, [[], ["absent a: no file"]]),
         ("a new one, without a tree", ledger_of(root=None), parts, False, [[], [absent]]), ("without a tree", ledger_of(one, root=None), parts, False, [[], []]))
     for name, ledger, found, runs, expected in rows:
@@ -1070,9 +1117,32 @@ def missing() -> None:
 
 
 @case
+def outside_once() -> None:
+    """That one is outside of the partition is said once, also where one look between does not find its config; and anew where another thing was said
+    between, or where it was inside."""
+    told = Told("/b", "/f")
+    outside, none = Missing(told, "its group is not below /c", outside=True), Missing(told, "no file")
+    inside = Found(told, ("s",), config_of(), Group("/t/a", 1, cpus("0-7"), populated=True))
+    line, absent = "outside a: its group is not below /c", "absent a: no file"
+    rows: Sequence[Tuple[str, Sequence[object], Sequence[str], Sequence[Kind]]] = (
+        ("once", [outside, outside], [line], [Kind.OUTSIDE]), ("a look without it", [outside, none, outside, none, outside], [line], [Kind.OUTSIDE]),
+        ("it is there later", [none, outside, outside], [line], [Kind.OUTSIDE]), ("it is not there", [outside, none, none], [line, absent], [Kind.ABSENT]),
+        ("another thing between", [outside, none, none, outside], [line, absent, line], [Kind.OUTSIDE]), ("inside between", [outside, inside, outside, outside], [line, line], [Kind.OUTSIDE]),
+        ("inside", [outside, inside], [line], []), ("told of no more", [outside, None], [line], []))
+    for name, looks, expected, left in rows:
+        ledger, lines = ledger_of(), list[str]()
+        for found in looks:
+            groups = {"/t/a": found.group} if isinstance(found, Found) else {}
+            commands, ledger = looked(ledger, told={"a": found} if found else {}, groups=groups)
+            lines += [each for each in said(commands) if each.startswith(("outside", "absent"))]
+        check(name, (lines, [problem.kind for problem in ledger.problems.values()]), (expected, left))
+
+
+@case
 def replies() -> None:
     for text, fault, momentary in (("refused E50 KernelFault", 50, True), ("refused E45 NoPids", 45, True), ("refused E111 NoBundle", 111, True),
-                                   ("refused E104 NotFree 3", 104, False), ("ok", None, False), ("refused E5 X", None, False)):
+                                   ("refused E104 NotFree 3", 104, False), ("ok", None, False), ("refused E1 Memory", 1, True), ("refused E5 X", 5, False),
+                                   ("refused E1042 X", None, False), ("refused: E50 X", None, False)):
         reply = Reply((text,))
         check(text, (reply.fault, reply.is_momentary), (fault, momentary))
     check("its refusal", Reply(("refused E104 NotFree 3",)).refusal, "E104 NotFree 3")
@@ -1093,7 +1163,15 @@ def asked() -> None:
         except StopIteration as end:
             check(f"{lines}, quiet {quiet}: the last is why", (end.value.lines, end.value.note), (lines, "b"))
         check(f"{lines}, quiet {quiet}", (said(commands), ledger.counts["refused_writes_total"], ledger.spent), expected)
-        check(f"{lines}, quiet {quiet}: told to end", ledger.ending, quiet)
+        check(f"{lines}, quiet {quiet}: told to end", (ledger.ending, ledger.ends_at_once), (quiet, False))
+    for before, at_once in ((False, True), (True, False), (False, False)):
+        ledger = ledger_of()
+        ledger.ends_at_once, steps = before, telling.ask(ledger, Ask("x"))
+        next(steps)
+        try:
+            steps.send(Answer(("ok",), ending=True, at_once=at_once))
+        except StopIteration:
+            check(f"at once {at_once}, and before {before}", ledger.ends_at_once, before or at_once)
     ledger = ledger_of()
     ledger.ending = ledger.spent = True
     _, reply = done(telling.ask(ledger, Ask("x")))
@@ -1112,6 +1190,32 @@ def pool_told() -> None:
     ledger.due = True
     commands, ledger = looked(ledger, answers)
     check("the same one", ([one for one in commands if isinstance(one, RunPool)], said(commands), ledger.due), ([], ["plan total 0", "done"], False))
+    for least, reserved, why in ((2, "0", ""), (0, "0", ""), (0, "0-1", "all of them are reserved"), (0, "0-2", "all of them are reserved"), (1, "0-1", "all of them are reserved"),
+                                 (3, "0-1", "keeps 3")):
+        ledger = ledger_of(members={"nodes": ["0-7"], "reserved": reserved}, pool_least=least)
+        ledger.due = True
+        found = [line for line in said(looked(ledger, answers)[0]) if line.startswith("note the pool")]
+        check(f"a pool of 0-1, {reserved} reserved, {least} at least", found, [f"note the pool has 2 CPUs, and {why}: nobody else gets CPUs of its own"] if why else [])
+    for least, why in ((0, "it is reserved"), (2, "keeps 2")):
+        found = said(done(plans.say_small(ledger_of(pool_least=least), cpus("0")))[0])
+        check(f"a pool of 0, {least} at least", found, [f"note the pool has 1 CPU, and {why}: nobody else gets CPUs of its own"])
+
+
+@case
+def counts() -> None:
+    """What is counted is one thing or several: no text of the package has a number before several but by `counted`, or where it is of several in any case."""
+    check("counted", [counted(0), counted(1), counted(2), counted(1, "node"), counted(3, "node")], ["0 CPUs", "1 CPU", "2 CPUs", "1 node", "3 nodes"])
+    several = {"asked CPUs", "folder.entries entries"}
+    package, found = os.path.join(OPERATORS, "numarun_host"), set()
+    for name in sorted(os.listdir(package)):
+        tree = ast.parse(text_of(os.path.join(package, name))) if name.endswith(".py") else ast.Module([], [])
+        for node in ast.walk(tree):
+            parts = node.values if isinstance(node, ast.JoinedStr) else []
+            for value, text in zip(parts, parts[1:]):
+                word = re.match(r" (CPUs|nodes|cores|entries|containers|others|values|rows|numbers|looks|moves)\b", text.value) if isinstance(text, ast.Constant) else None
+                if word and isinstance(value, ast.FormattedValue):
+                    found.add(f"{ast.unparse(value.value)} {word[1]}")
+    check("numbers before several", found - several, set())
 
 
 @case

@@ -1,14 +1,15 @@
 """Tries what the agent decides, without a process: whatever comes in whatever order over a plain model of the kernel, of a watched folder and
 of numarun (model.py). Containers come, go and come back, some with CPUs that their runtimes gave them, configs flip, break and can't be had,
-CPUs flap, writes fail, the folder is away, others write, all of it also between any two commands; and the agent is killed at any of them.
+limits change, also where agents lift them, CPUs flap, writes fail, the folder is away, others write, all of it also between any two commands; and the agent is killed at any of them.
 `decisions.py [CASES [SEED [JOBS]]]` draws cases of all lengths without hypothesis, by so many processes side by side, a thousand by each seed from
 SEED on: a million is some two hours of one processor.
 
 - No container with a process is given up, and nobody's processes are ended.
 - Who requests CPUs without a reserved one has them for itself, after each write.
 - Who comes before a run's first plan, while nobody requests the CPUs that it gives him, is never on the reserved CPUs alone.
-- Once all is well, who can be served is served within some looks, so that the pool keeps what is left to it, and then nothing more is said or
-  written.
+- As long as nothing happens no warning is said twice, but for what another run of numarun refuses anew.
+- Once all is well, who can be served is served within some looks, so that the pool keeps what is left to it, limits are followed, and lifted of
+  just those that have CPUs of their own, nothing but who has no room is left undone, and then nothing more is said or written.
 - Once all have gone, nothing of them is left."""
 
 from __future__ import annotations
@@ -24,9 +25,9 @@ from collections import Counter
 from typing import Callable, Optional
 
 from trial import check, failed, long_case
-from model import RESERVED, Agent, Choices, Killed, World
-from numarun_host.cpus import NO_CPUS
-from numarun_host.ledger import CONTAINER_TOPICS, STANDING, State
+from model import RESERVED, Agent, Choices, Killed, World, read
+from numarun_host.cpus import NO_CPUS, Cpus
+from numarun_host.ledger import CONTAINER_PAUSES, CONTAINER_TOPICS, FULL, STANDING, Kind, State, Topic
 from numarun_host.machine import Machine
 
 SHORT = int(os.environ.get("CASES", "3000"))  # drawn cases of each case below
@@ -69,20 +70,58 @@ def looks(agent: Agent, most: int) -> None:
             return
 
 
+def check_served(agent: Agent, taken: Cpus) -> None:
+    """Nobody who waits, or takes fewer CPUs than it asks for, asks for so many as may be had, of those that it names if it names some, while
+    others have taken these; but for one that is never moved."""
+    world = agent.world
+    for name, container in agent.ledger.containers.items():
+        wanted, waits = container.wanted or container.demand, container.state is State.WAITING
+        has, own = (0, NO_CPUS) if waits else (container.given.count or 0, container.cpus or NO_CPUS)
+        named = read(wanted.config["linux"]["resources"]["cpu"].get("cpus", ""))  # type: ignore[index]
+        free = min(len((named or world.present) - RESERVED - (taken - own)), len(world.present - taken) - world.pool_least + has)
+        if has < (wanted.count or 0) <= free and (waits or not container.stays):
+            world.wrong.append(f"{name} waits for {wanted.count} CPUs, and {free} may be had")
+
+
+def check_limits(agent: Agent) -> None:
+    """Whose group has a limit asks for that, unless it can't be had; and that is lifted of just those that have CPUs of their own, if it is."""
+    world, ledger = agent.world, agent.ledger
+    for name, container in ledger.containers.items():
+        inode = world.places[world.path(name)].inode
+        limit, free = world.theirs[inode], world.lifts and container.state.has_had_a_plan
+        if world.limits[inode] != (None if free else limit):
+            world.wrong.append(f"{name} is {container.state.value}, and has {world.limits[inode]} of {limit}")
+        asks = (container.wanted or container.demand).count
+        if limit and ledger.problem(Topic.DEMAND, name) is None and asks != limit[0] // limit[1]:
+            world.wrong.append(f"{name} asks for {asks} CPUs, and its limit is {limit}")
+
+
+def check_undone(agent: Agent) -> None:
+    """What is left undone of a container is just that it has no room, or that what it asks for by now can't be had, both if both are so. Of one that
+    has to leave the pool its CPUs that is not asked."""
+    world, ledger = agent.world, agent.ledger
+    for name, container in ledger.containers.items():
+        lacks = Kind.WAITS if container.state is State.WAITING else Kind.KEEPS if container.wanted else Kind.FEWER
+        has_all = lacks is Kind.FEWER and container.given.count == container.demand.count
+        if ledger.problem(Topic.ROOM, name) is not (None if has_all else lacks):
+            world.wrong.append(f"{name} {lacks.value}, unless {has_all}: {ledger.problem(Topic.ROOM, name)}")
+        is_refused = agent.program is not None and isinstance(agent.program.demand(world.asked(name)), str)
+        is_known = ledger.problem(Topic.DEMAND, name) is not None
+        if is_known and not is_refused or is_refused and not is_known and (has_all or not world.pool_least):
+            world.wrong.append(f"{name} is refused: {is_refused}, and that is left undone: {is_known}")
+
+
 def settled(agent: Agent) -> None:
     """Behind all trouble: who can be served is served, and it is quiet then."""
     world = agent.world
     world.settle()
     looks(agent, LOOKS)
-    waiting = [name for name, container in agent.ledger.containers.items() if container.state is State.WAITING]
     taken = NO_CPUS.union(*(row.cpus for row in (agent.program.rows.values() if agent.program else ()) if row.count is not None))
-    free = len(world.present - RESERVED - taken)
-    free = min(free, len(world.present - taken) - world.pool_least)
-    for name in waiting:
-        demand = agent.ledger.containers[name].demand
-        named = demand.config["linux"]["resources"]["cpu"].get("cpus")  # type: ignore[index]
-        if not named and demand.count is not None and demand.count <= free:
-            world.wrong.append(f"{name} waits for {demand.count} CPUs, and {free} may be had")
+    check_served(agent, taken)
+    check_limits(agent)
+    check_undone(agent)
+    if agent.program and agent.program.strangers:
+        world.wrong.append(f"{agent.program.strangers} are withheld, and all are told of")
     told = sorted(name for name in world.bundles if name not in agent.ledger.containers)
     if told:
         world.wrong.append(f"{told} are not told of: {agent.ledger.problems}")
@@ -91,6 +130,12 @@ def settled(agent: Agent) -> None:
             world.wrong.append(f"{name} asks for {row.count} CPUs, and has {sorted(world.places[world.path(name)].cpus)}")
         if row.count is None and world.places[world.path(name)].cpus != world.present - taken:
             world.wrong.append(f"{name} is shared, and has {sorted(world.places[world.path(name)].cpus)}")
+    undone = [problem for problem in agent.ledger.problems.values() if problem.kind not in (*FULL, Kind.REFUSED)]
+    if undone:
+        world.wrong.append(f"left undone, and all is well: {undone}")
+    strays = world.links.keys() - agent.ledger.containers.keys() - agent.ledger.strangers.keys()
+    if strays:
+        world.wrong.append(f"{strays} are links of nobody")
     before = {path: place.cpus for path, place in world.places.items()}
     for _ in range(1 if agent.rests else 3):
         world.now += 100
@@ -104,6 +149,7 @@ def settled(agent: Agent) -> None:
 def begun_anew(agent: Agent) -> Agent:
     """Another agent over what runs, behind a release: most groups request nothing."""
     world = agent.world
+    world.release_limits()
     for place in world.places.values():
         place.cpus = place.cpus if place.inode % 4 == 0 else frozenset()
     world.links.clear()
@@ -112,11 +158,12 @@ def begun_anew(agent: Agent) -> Agent:
 
 
 def refused(agent: Agent) -> None:
-    """Where no write is taken any more, nothing is said again and again: of a plan once, and once of a container."""
+    """Where no write is taken any more, nothing is said twice."""
     world, said = agent.world, Counter[str]()
-    world.read_only = 1 << 30
+    world.read_only, world.happened = 1 << 30, world.happened + 1
     world.flap()
     world.come()
+    world.limit_anew()
     for _ in range(6):
         world.now += 100
         before = agent.ledger
@@ -124,8 +171,8 @@ def refused(agent: Agent) -> None:
         said.update(agent.said)
         if not agent.said and all(getattr(before, name) == getattr(agent.ledger, name) for name in STANDING if name not in ("pauses", "counts")):
             break  # all pauses are over each time, so that nothing would be said again
-    if any(count > 2 for count in said.values()):
-        world.wrong.append(f"said again and again: {said.most_common(1)[0]}")
+    if any(count > 1 for count in said.values()):
+        world.wrong.append(f"said again: {said.most_common(1)[0]}")
     world.settle()
 
 
@@ -136,8 +183,8 @@ def left(agent: Agent) -> None:
     world.places.clear()
     looks(agent, 4)
     ledger = agent.ledger
-    kept = [ledger.containers, ledger.refused, ledger.blocking, ledger.taken, ledger.before, ledger.renewed, world.links, world.copies, world.taken,
-            [key for key in ledger.problems if key[0] in CONTAINER_TOPICS], [key for key in ledger.pauses if key[0] == "container"], ledger.unsaid]
+    kept = [ledger.containers, ledger.refused, ledger.blocking, ledger.taken, ledger.before, ledger.renewed, ledger.strangers, world.links, world.copies, world.taken,
+            [key for key in ledger.problems if key[0] in CONTAINER_TOPICS], [key for key in ledger.pauses if key[0] in CONTAINER_PAUSES], ledger.unsaid]
     if any(kept):
         world.wrong.append(f"left: {kept}")
 
@@ -146,6 +193,8 @@ def fault_of(case: bytes) -> Optional[str]:
     """What goes wrong in a case, or nothing."""
     world = World(MACHINE, Choices(case))
     world.pool_least = (0, 0, 2, 3)[world.choices.below(4)]
+    world.withholds = world.choices.below(4) < 3
+    world.lifts = world.choices.below(4) == 3
     agent = troubled(world)
     settled(agent)
     agent = begun_anew(agent)

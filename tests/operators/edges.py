@@ -23,7 +23,7 @@ from numarun_host.program import Run
 from numarun_host.script import Refused
 from numarun_host.seen import Group, Look, Told
 from numarun_host.telling import Turn
-from trial import case, check, command, long_case, refuses, scratch, told, written
+from trial import case, check, command, long_case, refuses, scratch, text_of, told, written
 
 
 BETWEEN = """
@@ -116,6 +116,58 @@ def standing_still() -> None:
             run.send_signal(number)
         out, err = run.communicate(timeout=60)
         check(f"it ends {says}", (run.returncode, says in err, time.monotonic() - began < 20), (1, True, True))
+
+
+STEPS = """#!/usr/bin/python3 -B
+import os, sys, time
+begun, step = 0, 0
+for line in sys.stdin:
+    words, answer = line.split(), "ok"
+    if words[0] == "phase":
+        answer = "settled"
+    elif words[0] == "create":
+        answer = "pid 2"
+    elif words[0] == "sets":
+        answer = "cpus 0 effective 0 mems 0 effective 0"
+    elif words[0] in ("begin", "rebalance"):
+        answer, step, begun = "plan total 10\\nhold a 1\\npool 0,2-7\\nend", 0, begun + 1
+    elif words[0] == "step":
+        time.sleep(0.8)
+        step += 1
+        with open(sys.argv[0] + ".log", "a") as file:
+            print(begun, step, file=file)
+        answer = REFUSAL if step == WRONG else "done" if step == 4 else "more"
+    print(answer, flush=True)
+"""
+
+
+@case
+def told_in_a_hand_over() -> None:
+    """Told to end in the midst of a hand-over the agent ends that first, and its status is 0. A second signal ends it behind the write that is made, which is
+    no fault either, and a line says what is left; so does a write that fails, which is one."""
+    left = "note the hand-over to the last plan has not ended: the next agent takes it up"
+    for name, wrong, signals, steps, last, status in (
+        ("once", 0, [signal.SIGTERM], 4, "done", 0), ("twice", 0, [signal.SIGTERM, signal.SIGTERM], 2, left, 0), ("by two signals", 0, [signal.SIGINT, signal.SIGTERM], 2, left, 0),
+        ("and a write fails", 3, [signal.SIGTERM], 3, left, 1)):
+        program = written(scratch(f"steps-{len(os.listdir(scratch()))}"), STEPS.replace("WRONG", str(wrong)).replace("REFUSAL", '"refused E50 KernelFault"'), 0o755)
+        machine = written(scratch("machine.json"), json.dumps({"nodes": ["0-7"], "distances": [[10]], "reserved": "0"}))
+        os.makedirs(scratch("a"), exist_ok=True)
+        written(scratch("a", "config.json"), json.dumps({"linux": {"resources": {"cpu": {"quota": QUOTA, "period": QUOTA}}}}))
+        run = subprocess.Popen(command("numarun-agent", machine, "--program", program, "--pause", "60"), stdin=subprocess.PIPE, stdout=subprocess.PIPE, stderr=subprocess.PIPE, text=True)
+        assert run.stdin and run.stdout
+        run.stdin.write(f"created a {scratch('a')}\n")
+        run.stdin.flush()
+        lines = [run.stdout.readline() for _ in range(4)]
+        check(f"{name}: it has begun", lines[-1].split(" ")[1:], ["pool", "0,2-7\n"])
+        while not os.path.exists(f"{program}.log"):
+            time.sleep(0.01)
+        for number in signals:
+            run.send_signal(number)
+            time.sleep(0.1)
+        out, err = run.communicate(timeout=60)
+        made = text_of(f"{program}.log").splitlines()
+        said_last = [line.partition(" ")[2] for line in out.splitlines()[-1:]]
+        check(name, (run.returncode, made[-1:], said_last, err), (status, [f"1 {steps}"], [last], ""))
 
 
 SLOW = """#!/usr/bin/python3 -B
@@ -219,8 +271,16 @@ def silent_folders() -> None:
     site.come("b", 1)
     lines += agent.until("create b") + agent.until("done")
     check("not there", of(lines, f"note {site.at('nowhere')}"), [f"note {site.at('nowhere')}: no such folder yet"])
-    check("no containers", of(lines, f"note {site.at('runtime')}"), [f"note {site.at('runtime')}: none of its 1 entries is a container, as moby"])
+    check("no containers", of(lines, f"note {site.at('runtime')}"), [f"note {site.at('runtime')}: its 1 entry is no container, as moby"])
     check("and it goes on", (site.has("a", "b"), agent.end()[0]), (["1", "2"], 0))
+
+
+REFUSES = """
+if line.startswith(b"update"):
+    print(f"error: {site}/work/tree/numarun/{id}/cpuset.cpus: Read-only file system", file=sys.stderr, flush=True)
+    print("refused E50 KernelFault", flush=True)
+    continue
+"""
 
 
 @case
@@ -244,6 +304,13 @@ def long_ids() -> None:
     site.come(ids[2], 2)
     status, lines = site.run()
     check("in the log", (status, of(lines, "create", "hold")), (0, [f"create 777777777777 {site.at('g', ids[2])} 1-2", "hold 777777777777 1-2"]))
+    agent = Open(site, *site.stand_in(REFUSES, site=site.folder, id=ids[1]))
+    agent.until("done")
+    site.come(ids[1], 6)
+    lines = agent.until("short")
+    agent.end()
+    check("a write that is refused", of(lines, "failed"), ["failed 888888888888/cpuset.cpus: Read-only file system"])
+    check("who is short", of(lines, "short"), ["short demand 8 allowed 1-7 member 777777777777 member 888888888888"])
 
 
 @long_case
@@ -320,7 +387,7 @@ def pool_floor() -> None:
     site.come("b", 2)
     site.come("c", 1)
     status, lines = site.run("--defaults", rounds="2")
-    said = "waits b: it would leave 1 CPUs to the pool, and that keeps 2: it runs on the pool until there is room"
+    said = "waits b: it would leave 1 CPU to the pool, and that keeps 2: it runs on the pool until there is room"
     check("who comes waits", (status, said in lines, site.has("a", "b", "c")), (1, True, ["1-5", "0,7", "6"]))
     site.come("d", 3, annotations={"numarun.least": "1"})
     site.go("c")
@@ -378,7 +445,7 @@ def words() -> None:
     with open(site.at("agent.conf"), "w") as file:
         file.write(f"# what the agent is told\n{site.at('machine.json')}  # this machine\n--pool-least 25%\n--watch '{site.at('g')}'\n\n")
     status, out, err = told("numarun-agent", "check-config", f"@{site.at('agent.conf')}", "--program", IN_FOLDERS)
-    check("a file of words", (status, out, err), (0, f"{site.at('machine.json')}: 8 CPUs on 1 nodes, reserved 0, and 2 are left to the pool\n", ""))
+    check("a file of words", (status, out, err), (0, f"{site.at('machine.json')}: 8 CPUs on 1 node, reserved 0, and 2 are left to the pool\n", ""))
     refuses("numarun-agent", "check-config", "no-such-file", "--program", IN_FOLDERS, says="no-such-file: No such file")
     check("a file that is not there", told("numarun-agent", "@no-such-file")[0], 2)
     version = subprocess.run([IN_FOLDERS, "--version"], capture_output=True).stdout.decode()

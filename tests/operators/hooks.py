@@ -4,13 +4,16 @@ from __future__ import annotations
 
 import json
 import os
+import select
 import signal
+import socket
 import subprocess
 import time
-from typing import Any
+from typing import Any, List
 
 from sites import PATIENCE, Open, Site, Wanted
-from trial import TOP, Told, case, check, command, refuses, told, words_and_help
+from numarun_host.hooks import MOST, Hooks, near
+from trial import TOP, Told, case, check, command, refuses, scratch, told, words_and_help
 
 
 Hook = subprocess.Popen[bytes]
@@ -131,6 +134,34 @@ def far_away() -> None:
     agent = Open(site, "--watch", site.at("told"), "--work", work)
     check("a long name", ended(begun(site, "a", "--agent", f"{work}/hooks", *WAIT)), (0, "pinned a 1-2\n", ""))
     agent.end(signal.SIGTERM)
+
+
+@case
+def many() -> None:
+    """Nobody else is taken up while as many wait as may, and the agent does not look for one more without a pause; once one of these is gone it
+    does."""
+    hooks, doors = Hooks(scratch("hooks")), []
+
+    def ready() -> List[int]:
+        waiter = select.poll()
+        for file in hooks.files():
+            waiter.register(file, select.POLLIN)
+        return [file for file, _ in waiter.poll(0)]
+
+    for k in range(MOST + 1):
+        door = socket.socket(socket.AF_UNIX, socket.SOCK_STREAM)
+        with near(scratch("hooks")) as path:
+            door.connect(path)
+        check(f"hook {k} is heard", (k == MOST or hooks.door.fileno() in ready()), True)
+        hooks.take()
+        doors.append(door)
+    check("no pause is cut short", (len(hooks.waiting), ready()), (MOST, []))
+    doors.pop(0).close()
+    check("one that goes is", len(ready()), 1)
+    hooks.take()
+    check("and the one more knocks", (len(hooks.waiting), ready()), (MOST - 1, [hooks.door.fileno()]))
+    hooks.take()
+    check("and is taken up", (len(hooks.waiting), ready()), (MOST, []))
 
 
 @case

@@ -21,7 +21,7 @@ from numarun_host.decide import decide
 from numarun_host.kept_files import GroupFiles
 from numarun_host.ledger import Kind, Ledger, Pause, Problem, State, Topic
 from numarun_host.runtimes import Watch
-from numarun_host.seen import Double, Folder, Group, Look, Missing, NoGroup, Online
+from numarun_host.seen import Double, Folder, Group, Look, Missing, NoGroup, Online, Unread
 from numarun_host.sources import Folders
 
 LONG_AGO = 1_600_000_000  # seconds: a folder that is as it was then has not changed for a while
@@ -283,6 +283,47 @@ def folders_again() -> None:
     check("another one of its name", (source.told["c"] is before, source.known[os.path.join(root, "c")][1].kept.group), (False, "/x"))
 
 
+@case
+def folders_unread() -> None:
+    """One that can't be read has what it had, and the others tell who comes and who ends. Of a family that can't be read each folder that was there
+    is looked at."""
+    def bundle(*names: str) -> None:
+        os.makedirs(scratch(*names))
+        written(scratch(*names, "config.json"), "{}")
+
+    def told(*sources: Folders) -> List[List[str]]:
+        for source in sources:
+            source.look()
+        return [sorted(source.told) for source in sources]
+
+    def lines(source: Folders) -> List[str]:
+        return [unread.line for unread in source.unread]
+
+    bundle("g", "a")
+    bundle("family", "x", "c")
+    for name in ("file", "g/no-folder"):
+        written(scratch(name), "")
+    os.symlink(scratch("circle"), scratch("circle"))
+    bad = Folders([Watch(scratch(name)) for name in ("file", "circle", "no\0name", "g")])
+    family = Folders([Watch(scratch("family/*"), True), Watch(scratch("g"))])
+    check("the good ones", told(bad, family), [["a"], ["a", "c"]])
+    said = [f"{scratch('file')}: Not a directory", f"{scratch('circle')}: Too many levels of symbolic links", f"{scratch('no')}\0name: embedded null byte"]
+    check("why", (lines(bad), lines(family)), (said, []))
+    check("no folder is taken for none", [(folder.there, folder.entries) for folder in bad.folders], [(True, 0)] * 3 + [(True, 2)])
+    bundle("g", "b")
+    os.rename(scratch("family"), scratch("away"))
+    written(scratch("family"), "")
+    check("who comes", told(bad, family), [["a", "b"], ["a", "b", "c"]])
+    check("the family", lines(family), [f"{scratch('family')}: Not a directory", f"{scratch('family/x')}: Not a directory"])
+    os.rename(scratch("g"), scratch("gone"))
+    os.symlink(scratch("circle"), scratch("g"))
+    check("none is taken for ended", told(bad, family), [["a", "b"], ["a", "b", "c"]])
+    os.remove(scratch("family"))
+    os.rename(scratch("away"), scratch("family"))
+    os.rename(scratch("family/x/c"), scratch("c"))
+    check("who ends", (told(family), len(lines(family))), ([["a", "b"]], 1))
+
+
 # What is decided where nothing is otherwise.
 
 
@@ -290,7 +331,7 @@ def resting(**settings: Any) -> Tuple[Ledger, Look]:
     """What is known behind a look at which nothing was to be done, of one that is pinned and one that waits; and that look."""
     p, w = container("p", State.PINNED, 1, cpus=cpus("2")), container("w", State.WAITING, cpus=cpus("0-1,3-7"))
     ledger = ledger_of(p, w, **settings)
-    ledger.problems[Topic.CONTAINER, "w"] = Problem(Kind.WAITS, "w", "w: short")
+    ledger.problems[Topic.ROOM, "w"] = Problem(Kind.WAITS, "w", "w: short")
     ledger.pool = cpus("0-1,3-7")
     told = {"p": as_given(p), "w": as_given(w)}
     look = Look(10.0, told, {found.group.path: found.group for found in told.values()}, Online(ledger.running))
@@ -346,7 +387,7 @@ def wakened() -> None:
         "a folder": {"folders": (Folder("/g", False),)},
         "a double": {"doubles": (Double("p", "/g/p", "/h/p"),)},
         "a name": {"titles": {"p": "web"}},
-        "a fault": {"fault": "/g: Permission denied"},
+        "a folder that can't be read": {"unread": (Unread("/g", "/g: Permission denied"),)},
         "the pool's command": {"pool_command": "true", "pool_fault": "status 1"}}
     for name, parts in others.items():
         try:

@@ -8,22 +8,22 @@ import json
 import os
 import random
 import time
-from typing import Dict, Optional, Sequence, Set, Tuple
+from typing import Optional, Sequence, Tuple
 
 from decisions import MACHINE
 from sites import Open, Site
-from model import NAMES, RESERVED, Agent, Choices, Killed, World
+from model import Agent, Choices, Killed, World
 from numarun_host.cgroups import Groups
-from numarun_host.commands import Answer, Command, SetLimit, Taken
+from numarun_host.commands import Answer, SetLimit, Taken
+from numarun_host.configs import Limit
 from numarun_host.doing import Ending, Hands, PoolCommand
 from numarun_host.ledger import State
 from numarun_host.log import logger
 from numarun_host.records import Certificates
-from numarun_host.seen import Group, NoGroup
-from numarun_host.taken import Record, read_record
+from numarun_host.seen import Group
+from numarun_host.taken import Record, read_record, write_file
 from trial import case, check, long_case, told
 
-Limit = Tuple[int, int]
 CASES = int(os.environ.get("CASES", 1500))
 SEED = 20261129
 
@@ -118,7 +118,7 @@ def refused() -> None:
     world = LimitedWorld(MACHINE, Choices(b""))
     world.come()
     world.come()
-    agent = Lifting(world, True)
+    agent = Agent(world)
     world.unwritable = True
     said = []
     for _ in range(6):
@@ -160,7 +160,7 @@ def taken_away_by_then() -> None:
 
     world = Between(MACHINE, Choices(b""))
     world.come()
-    agent = Lifting(world, True)
+    agent = Agent(world)
     agent.look(troubled=False)
     check("nothing is kept", ([taken.limit for taken in world.taken.values()], world.wrong), ([None], []))
 
@@ -179,6 +179,12 @@ def records() -> None:
             json.dump({"all": ["0-7", "0"], "groups": {site.folder: [inode, "", "", False, *members]}}, file)
         taken = read_record(site.at("work")).groups[site.folder]
         check(f"read {members}", taken, Taken(inode, "", "", False, expected))
+    for cpus, nodes in (("\ud800", ""), ("", "\udfff"), ("1\udc00", None), (5, "")):
+        with open(site.at("work/taken.json"), "w") as file:
+            json.dump({"all": [cpus, nodes], "groups": {site.folder: [inode, cpus, nodes, False]}}, file)
+        record = read_record(site.at("work"))
+        check(f"texts that no file can have: {cpus!a} {nodes!a}", (record.whole, record.groups), ((None, None), {}))
+    check("nor any write", [write_file(path, "\ud800") is None for path in (site.at("machine.json"), "a\0b", site.at("\ud800"))], [False] * 3)
     record = read_record(site.at("work"))
     both = Taken(inode, "1", "", False, (7, 8), True)
     record.save({site.folder: both, "/x": Taken(2, None, "", True)})
@@ -192,13 +198,10 @@ def records() -> None:
 
 @dataclasses.dataclass
 class LimitedWorld(World):
-    """Groups with limits: by the inode what each has, and what others gave it last."""
+    """Limits change at every fourth thing that happens, and no record is lost, so that each limit can be given back."""
 
-    limits: Dict[int, Optional[Limit]] = dataclasses.field(default_factory=dict)
-    theirs: Dict[int, Optional[Limit]] = dataclasses.field(default_factory=dict)
-    drifted: Set[int] = dataclasses.field(default_factory=set)  # on the reserved CPUs, by somebody else's write
+    lifts: bool = True
     unwritable: bool = False
-    is_within: bool = False  # whether an agent is in the midst of a look
 
     def happen(self) -> None:
         if self.choices.below(4) == 1:
@@ -206,76 +209,16 @@ class LimitedWorld(World):
         else:
             super().happen()
 
-    def limit_anew(self) -> None:
-        """Somebody else gives a container another limit; or none, but not where the agent has lifted it, or is about to: that is the same to
-        see."""
-        path = self.path(NAMES[self.choices.below(len(NAMES))])
-        place = self.places.get(path)
-        if place:
-            count, kept = self.choices.below(4), self.taken.get(path)
-            self.limit_of(path, place.inode)
-            if count or not (self.is_within or kept and kept.limit):
-                self.limits[place.inode] = self.theirs[place.inode] = (100000 * count, 100000) if count else None
-
-    def drift(self) -> None:
-        super().drift()
-        self.drifted = {place.inode for place in self.places.values() if place.cpus == RESERVED}
-
-    def group(self, path: str) -> "Group | NoGroup":
-        found = super().group(path)
-        if isinstance(found, NoGroup):
-            return found
-        return dataclasses.replace(found, limit=self.limit_of(path, found.inode))
-
-    def limit_of(self, path: str, inode: int) -> Optional[Limit]:
-        """The limit of a group, which is at first that of its container's config."""
-        if inode not in self.limits:
-            bundle = self.bundles.get(os.path.basename(path))
-            section = bundle.config["linux"]["resources"]["cpu"] if bundle and bundle.config else {}  # type: ignore[index]
-            given = (section["quota"], section["period"]) if section.get("quota") else None
-            self.limits[inode] = self.theirs[inode] = given
-        return self.limits[inode]
+    def lose_record(self) -> None:
+        pass
 
     def set_limit(self, command: SetLimit) -> Answer:
-        place = self.places.get(command.path)
-        if place is None or place.inode != command.inode or self.limit_of(command.path, place.inode) != command.before:
-            return Answer(stale=True)
-        if self.read_only or self.unwritable:
-            self.read_only = max(self.read_only - 1, 0)
-            return Answer(why=f"{command.path}/cpu.max: Permission denied")
-        kept = self.taken.get(command.path)
-        if command.limit is None and (kept is None or kept.inode != place.inode or kept.limit != self.theirs[place.inode]):
-            self.wrong.append(f"{command.path} was lifted before that was kept: {kept}")
-        if command.limit is None and place.cpus & RESERVED and place.inode not in self.drifted:
-            self.wrong.append(f"{command.path} is lifted on the reserved CPUs")
-        if command.limit is not None and command.limit != self.theirs[place.inode]:
-            self.wrong.append(f"{command.path} is given back {command.limit}, and had {self.theirs[place.inode]}")
-        self.limits[place.inode] = command.limit
-        return Answer()
+        return Answer(why=f"{command.path}/cpu.max: Permission denied") if self.unwritable else super().set_limit(command)
 
 
-class Lifting(Agent):
-    """An agent with or without --lift."""
-
-    def __init__(self, world: LimitedWorld, lifts: bool) -> None:
-        super().__init__(world)
-        self.limited = world
-        self.ledger.settings = dataclasses.replace(self.ledger.settings, lift=lifts)
-
-    def look(self, troubled: bool) -> None:
-        self.limited.is_within = True
-        try:
-            super().look(troubled)
-        finally:
-            self.limited.is_within = False
-
-    def do(self, command: Command) -> Answer:
-        return self.limited.set_limit(command) if isinstance(command, SetLimit) else super().do(command)
-
-
-def settled(agent: Lifting) -> None:
+def settled(agent: Agent) -> None:
     """Behind all trouble those that have CPUs of their own are lifted, and all others have theirs."""
-    world = agent.limited
+    world = agent.world
     world.settle()
     for _ in range(40):
         world.now += 100
@@ -290,30 +233,20 @@ def settled(agent: Lifting) -> None:
             world.wrong.append(f"{name} asks for {container.demand.count} CPUs, and its limit was {limit}")
 
 
-def released(world: LimitedWorld) -> None:
-    """What is kept gives back to each what others gave it last."""
-    for path, taken in world.taken.items():
-        place = world.places.get(path)
-        if place and place.inode == taken.inode and taken.limit and world.limits[place.inode] is None:
-            world.limits[place.inode] = taken.limit
-    wrong = [path for path, place in world.places.items() if place.inode in world.limits and world.limits[place.inode] != world.theirs[place.inode]]
-    if wrong:
-        world.wrong.append(f"{wrong} have other limits behind a release")
-
-
 def fault_of(case: bytes) -> Optional[str]:
     world = LimitedWorld(MACHINE, Choices(case))
-    agent = Lifting(world, True)
+    agent = Agent(world)
     while world.choices.are_left:
         for _ in range(world.choices.below(3)):
             world.happen()
         try:
             agent.look(troubled=True)
         except Killed:
-            agent = Lifting(world, world.choices.below(4) > 0)
+            world.lifts = world.choices.below(4) > 0
+            agent = Agent(world)
     if world.choices.below(2):
         settled(agent)
-    released(world)
+    world.release_limits()
     return world.wrong[0] if world.wrong else None
 
 

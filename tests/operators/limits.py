@@ -28,7 +28,7 @@ def turn_of(*containers: Container, kept: Optional[Limit] = None, lift: bool = T
     """A turn in which something was taken of each of these groups, of this inode, with this limit."""
     ledger = ledger_of(*containers, lift=lift)
     ledger.taken = {found.seen.group.path: Taken(inode, "", "", False, kept) for found in containers}
-    return Turn(ledger, Look(now))
+    return Turn(ledger, Look(now, groups={found.seen.group.path: found.seen.group for found in containers}))
 
 
 def carried_out(steps: Steps[None], answer: Answer = Answer()) -> List[Command]:
@@ -108,17 +108,36 @@ def given_back() -> None:
 
 
 @case
+def as_the_look_found_it() -> None:
+    """A group's limit is that of this look, also of one that is taken up as it is now at a later one: what was lifted before stays kept."""
+    turn = turn_of(one("p", TWO), kept=TWO)
+    turn.look = dataclasses.replace(turn.look, groups={"/t/p": Group("/t/p", 1, cpus("2-3"))})
+    check("lifted before", (carried_out(lifting.lift_all(turn)), kept(turn.ledger)), ([], {"/t/p": TWO}))
+    turn.look = dataclasses.replace(turn.look, groups={"/t/p": Group("/t/p", 1, cpus("2-3"), limit=FOUR)})
+    check("another one by now", (limits(carried_out(lifting.lift_all(turn))), kept(turn.ledger)), ([("/t/p", None, FOUR)], {"/t/p": FOUR}))
+    turn.look = dataclasses.replace(turn.look, groups={})
+    check("a group that is not there", (carried_out(lifting.lift_all(turn)), kept(turn.ledger)), ([], {"/t/p": FOUR}))
+
+
+@case
 def refused() -> None:
     """A limit that can't be written is said once, and tried again behind a pause; one that somebody gave another one meanwhile is not."""
     turn = turn_of(one("p", TWO))
     commands = carried_out(lifting.lift_all(turn), Answer(why=DENIED))
     check("said", (said(commands), turn.ledger.problem(Topic.LIMIT, "p"), turn.ledger.pauses["limit", "p"].until > 10.0), ([f"failed {DENIED}"], Kind.FAILED, True))
     check("what is kept stays", kept(turn.ledger), {"/t/p": TWO})
-    turn.look = Look(99.0)
+    turn.look = dataclasses.replace(turn.look, now=99.0)
     check("once", said(carried_out(lifting.lift_all(turn), Answer(why=DENIED))), [])
-    turn.look = Look(999.0)
+    turn.look = dataclasses.replace(turn.look, now=999.0)
     commands = carried_out(lifting.lift_all(turn))
     check("and done", (limits(commands), turn.ledger.problems, turn.ledger.pauses), ([("/t/p", None, TWO)], {}, {}))
+    turn = turn_of(one("p", TWO))
+    carried_out(lifting.lift_all(turn), Answer(why=DENIED))
+    turn.look = dataclasses.replace(turn.look, groups={"/t/p": Group("/t/p", 1, cpus("2-3"))})
+    turn.ledger.taken["/t/p"] = dataclasses.replace(turn.ledger.taken["/t/p"], limit=None)
+    check("one that somebody took away, before its pause is over", (carried_out(lifting.lift_all(turn)), len(turn.ledger.problems)), ([], 1))
+    turn.look = dataclasses.replace(turn.look, now=99.0)
+    check("and behind it", (carried_out(lifting.lift_all(turn)), turn.ledger.problems, turn.ledger.pauses), ([], {}, {}))
     for state, before in ((State.PINNED, None), (State.WAITING, TWO)):
         turn = turn_of(one("p", TWO if state is State.PINNED else None, state), kept=before)
         turn.ledger.problems[Topic.LIMIT, "p"] = Problem(Kind.FAILED, "p", DENIED)

@@ -1,5 +1,5 @@
-"""A plain model of what the agent decides over: containers in a watched folder with their groups, the kernel's list of online CPUs, numarun,
-and an agent that carries out what is decided. It has no file, no process and no clock, and is written from docs/formats.md and the kernel's
+"""A plain model of what the agent decides over: containers in a watched folder with their groups and limits, the kernel's list of online CPUs,
+numarun, and an agent that carries out what is decided. It has no file, no process and no clock, and is written from docs/formats.md and the kernel's
 page of cgroup v2, not from the agent. What happens is drawn from bytes: where these have run out, nothing happens any more."""
 
 from __future__ import annotations
@@ -8,8 +8,9 @@ import dataclasses
 from dataclasses import dataclass, field
 from typing import Dict, Iterator, List, Optional, Set, Tuple, Union
 
-from numarun_host.commands import (Answer, Ask, CloseTrial, Command, Drop, Level, Link, OpenTrial, SaveTaken, Say, Start, Taken, Tell, Unlink,
-                                   Verb, Write)
+from numarun_host.commands import (NAMELESS, Answer, Ask, CloseTrial, Command, Drop, Level, Link, OpenTrial, SaveTaken, Say, SetLimit, Start, Steps,
+                                   Taken, Tell, Unlink, Verb, Write)
+from numarun_host.configs import Limit, quota_of
 from numarun_host.cpus import NO_CPUS, Cpus
 from numarun_host.decide import decide
 from numarun_host.ledger import Ledger, Settings
@@ -20,6 +21,7 @@ ROOT, RESERVED = "/tree", frozenset({0})
 NAMES = ("a", "b", "c", "d", "e", "s", "t")
 POOLED = ("s", "t")  # those of them that ask for no CPUs of their own
 NO_WRITE = "refused E50 KernelFault"
+NO_MEMORY = "refused E1 Memory"
 
 
 def read(text: str) -> Cpus:
@@ -92,6 +94,13 @@ class Program:
         self.online = world.present - offline
         self.rows: Dict[str, Row] = {}
         self.targets: Optional[Dict[str, Cpus]] = None
+        is_shown = tree and world.withholds
+        self.strangers = {name: world.places[path].cpus for name, path in world.links.items() if is_shown and path in world.places}
+
+    @property
+    def there(self) -> Cpus:
+        """The CPUs that are there for a plan."""
+        return self.online - (NO_CPUS.union(*self.strangers.values()) - self.reserved)
 
     def write(self, name: str, cpus: Cpus) -> bool:
         """One write, and whether the kernel took it; into a group that is gone it counts as done."""
@@ -99,6 +108,10 @@ class Program:
             return False
         self.rows[name].cpus = cpus
         return True
+
+    def has_no_memory(self) -> bool:
+        self.world.starved -= self.world.starved > 0
+        return self.world.starved > 0
 
     def demand(self, config: object) -> Union[str, Row]:
         """What a config asks for, or why it is refused."""
@@ -120,6 +133,8 @@ class Program:
         name, row = command.name, self.demand(command.config)
         if self.targets is not None:
             return "refused E90 Busy"
+        if self.has_no_memory():
+            return NO_MEMORY
         if (command.verb is Verb.UPDATE) == (name not in self.rows):
             return "refused E92 Exists"
         if isinstance(row, str):
@@ -131,10 +146,13 @@ class Program:
             others = [other for other in self.rows.values() if cpu in other.cpus and (other.count is not None or row.count is not None)]
             if others or cpu not in self.world.present:
                 return f"refused E104 NotFree {cpu}"
+        if self.tree and self.world.spent:
+            return "refused E45 NoPids"
         self.rows[name] = row
         if not self.write(name, cpus):
             del self.rows[name]
             return NO_WRITE
+        self.strangers.pop(name, None)
         return "pid 2"
 
     def mark(self, name: str) -> None:
@@ -160,6 +178,8 @@ class Program:
             self.world.end_processes(self.world.links.get(words[0]) if self.tree else None)
         elif kind == "delete":
             del self.rows[words[0]]
+        elif kind == "forget":
+            return (self.forget(words[0]),)
         elif kind == "sets":
             has = shown(self.rows[words[0]].cpus)
             return (f"cpus {has} effective {has} mems 0 effective 0",)
@@ -169,15 +189,24 @@ class Program:
             return (self.step(),)
         return ("ok",)
 
+    def forget(self, name: str) -> str:
+        if not self.world.withholds:
+            return "refused E110 BadLine"
+        return "refused E105 NoStranger" if self.strangers.pop(name, None) is None else "ok"
+
     def begin(self, opens: bool) -> Tuple[str, ...]:
         if self.targets is not None:
             return ("refused E90 Busy",)
+        if self.has_no_memory():
+            return (NO_MEMORY,)
         holds, short = self.plan()
+        if any(cpus & self.reserved and cpus - self.reserved for cpus in self.strangers.values()):
+            self.world.wrong.append(f"a plan for which the pool is withheld: {self.strangers}")
         if short:
-            allowed = NO_CPUS.union(*(self.rows[name].allowed & self.online for name in short))
+            allowed = NO_CPUS.union(*(self.rows[name].allowed & self.there for name in short))
             head = f"short demand {sum(self.rows[name].count or 0 for name in short)} allowed {shown(allowed)}"
             return (head, *(f"member {name}" for name in short), "end")
-        pool = self.online.difference(*holds.values())
+        pool = self.there.difference(*holds.values())
         self.targets = {name: holds.get(name, pool) for name in self.rows}
         if not opens:
             for name, target in self.targets.items():
@@ -190,7 +219,7 @@ class Program:
         holder: Dict[int, str] = {}
         asking = [name for name, row in self.rows.items() if row.count is not None]
         for name in asking:
-            for cpu in sorted(self.rows[name].cpus & self.rows[name].allowed & self.online)[:self.rows[name].count]:
+            for cpu in sorted(self.rows[name].cpus & self.rows[name].allowed & self.there)[:self.rows[name].count]:
                 holder.setdefault(cpu, name)
         for name in asking:
             for _ in range((self.rows[name].count or 0) - list(holder.values()).count(name)):
@@ -210,7 +239,7 @@ class Program:
 
     def augment(self, name: str, holder: Dict[int, str], seen: Set[str]) -> bool:
         seen.add(name)
-        may = sorted(self.rows[name].allowed & self.online)
+        may = sorted(self.rows[name].allowed & self.there)
         for cpu in may:
             if cpu not in holder:
                 holder[cpu] = name
@@ -243,7 +272,10 @@ class Program:
         if not self.write(*due):
             self.targets = None
             return NO_WRITE
-        return "more"
+        if next(self.writes(), None):
+            return "more"
+        self.targets = None
+        return "done"
 
 
 @dataclass
@@ -262,9 +294,18 @@ class World:
     copies: Set[str] = field(default_factory=set)
     seen: Dict[str, Cpus] = field(default_factory=dict)  # by its path what a group requests, as the agent saw or wrote it last
     hidden: bool = False
+    withholds: bool = True  # whether the program knows strangers
+    spent: bool = False     # whether it has no pids left
+    starved: int = 0        # for so many commands from now on, but for the last one, it has no memory
     read_only: int = 0  # so many writes fail from now on
     refused: Optional[str] = None  # where the last one failed
+    lifts: bool = False  # whether agents lift the limits of those that have CPUs of their own
+    limits: Dict[int, Optional[Limit]] = field(default_factory=dict)  # by the inode of a group its limit
+    theirs: Dict[int, Optional[Limit]] = field(default_factory=dict)  # and the one that others gave it last
+    drifted: Set[int] = field(default_factory=set)  # on the reserved CPUs, by somebody else's write
+    is_within: bool = False  # whether an agent is in the midst of a look
     count: int = 0
+    happened: int = 0  # how many things
     now: float = 0.0
     wrong: List[str] = field(default_factory=list)
 
@@ -283,6 +324,37 @@ class World:
         if path in self.places and self.places[path].populated:
             self.wrong.append(f"the processes of {path} were ended")
 
+    def set_limit(self, command: SetLimit) -> Answer:
+        place = self.places.get(command.path)
+        if place is None or place.inode != command.inode or self.limits[place.inode] != command.before:
+            return Answer(stale=True)
+        if self.read_only:
+            self.read_only -= 1
+            return Answer(why=f"{command.path}/cpu.max: Permission denied")
+        self.check_limit(command, place)
+        self.limits[place.inode] = command.limit
+        return Answer()
+
+    def check_limit(self, command: SetLimit, place: Place) -> None:
+        """A limit is lifted of who has CPUs of its own once what it was is kept, and what is given back is what others gave last."""
+        kept, theirs = self.taken.get(command.path), self.theirs[place.inode]
+        if command.limit is not None and command.limit != theirs:
+            self.wrong.append(f"{command.path} is given back {command.limit}, and had {theirs}")
+        if command.limit is None and (kept is None or kept.inode != place.inode or kept.limit != theirs):
+            self.wrong.append(f"{command.path} was lifted before that was kept: {kept}")
+        if command.limit is None and place.cpus & RESERVED and place.inode not in self.drifted:
+            self.wrong.append(f"{command.path} is lifted on the reserved CPUs")
+
+    def release_limits(self) -> None:
+        """What a release does: what is kept gives back to each what others gave it last."""
+        for path, taken in self.taken.items():
+            place = self.places.get(path)
+            if place and place.inode == taken.inode and taken.limit and self.limits[place.inode] is None:
+                self.limits[place.inode] = taken.limit
+        wrong = [path for path, place in self.places.items() if self.limits[place.inode] != self.theirs[place.inode]]
+        if wrong:
+            self.wrong.append(f"{wrong} have other limits behind a release")
+
     def check(self, path: str, cpus: Cpus, shared: bool) -> None:
         """What a write gives is nobody else's own, and what it gives as one's own is nobody else's at all, as the agent saw it last. Who requests
         CPUs without a reserved one has them as its own, unless it was written as one that is on the pool."""
@@ -296,7 +368,9 @@ class World:
 
     def happen(self) -> None:
         """One thing of all that happens."""
-        events = (self.rest, self.come, self.go, self.configure, self.flap, self.fail, self.hide, self.come_anew, self.damage, self.drift)
+        self.happened += 1
+        events = (self.rest, self.come, self.go, self.configure, self.flap, self.fail, self.hide, self.come_anew, self.damage, self.drift, self.spend,
+                  self.starve, self.limit_anew)
         events[self.choices.below(len(events))]()
 
     def rest(self) -> None:
@@ -330,6 +404,7 @@ class World:
             has = has if self.choices.below(4) else read(("", "1-2", "3", "2,5")[self.choices.below(4)])
             self.places[self.path(name)] = Place(self.count, has, shared=name in POOLED)
             self.bundles[name] = Bundle(config, self.count)
+            self.limit_first(config)
 
     def go(self) -> None:
         name = self.chosen()
@@ -342,7 +417,9 @@ class World:
         if name in self.bundles:
             self.count += 1
             self.places[self.path(name)] = Place(self.count, shared=name in POOLED)
-            self.bundles[name] = Bundle(self.config(name) if self.choices.below(2) else None, self.count)
+            config = self.config(name)
+            self.bundles[name] = Bundle(config if self.choices.below(2) else None, self.count)
+            self.limit_first(config)
 
     def configure(self) -> None:
         name = self.chosen()
@@ -368,15 +445,56 @@ class World:
     def hide(self) -> None:
         self.hidden = not self.hidden
 
+    def spend(self) -> None:
+        self.spent = True
+
+    def starve(self) -> None:
+        self.starved = 2 + self.choices.below(3)
+
+    def lose(self) -> None:
+        """What an agent left for the next one is not there as a whole: a link, or the record of what it took."""
+        way, links = self.choices.below(16), sorted(self.links)
+        if way in (13, 14) and links:
+            del self.links[links[self.choices.below(len(links))]]
+        elif way == 15:
+            self.lose_record()
+
+    def lose_record(self) -> None:
+        """Without the record nobody knows of a limit that was lifted."""
+        self.taken, self.theirs = {}, dict(self.limits)
+
     def drift(self) -> None:
         """Somebody else's write."""
         place = self.places.get(self.path(self.chosen()))
         if place and place.cpus:
             place.cpus = (RESERVED, RESERVED, read("1-2"), read("4"))[self.choices.below(4)]
+        self.drifted = {place.inode for place in self.places.values() if place.cpus == RESERVED}
+
+    def limit_first(self, config: Dict[str, object]) -> None:
+        """The limit of a group that came last: the runtime wrote that of its config, or it writes none."""
+        self.limits[self.count] = self.theirs[self.count] = None if self.choices.below(2) else quota_of(config)
+
+    def limit_anew(self) -> None:
+        """Somebody else gives a container another limit; or none, but not where an agent has lifted it, or may be about to: that is the same to
+        see."""
+        path = self.path(self.chosen())
+        count, place, kept = self.choices.below(4), self.places.get(path), self.taken.get(path)
+        if place and (count or not (self.lifts and self.is_within or kept and kept.limit)):
+            self.limits[place.inode] = self.theirs[place.inode] = (100000 * count, 100000) if count else None
+
+    def asked(self, name: str) -> Dict[str, object]:
+        """What a container asks for: its config, with the limit that others gave its group."""
+        config, limit = self.bundles[name].config, self.theirs[self.places[self.path(name)].inode]
+        assert config
+        section: Dict[str, object] = dict(config["linux"]["resources"]["cpu"])  # type: ignore[index]
+        if limit:
+            section["quota"], section["period"] = limit
+        return {**config, "linux": {"resources": {"cpu": section}}}
 
     def settle(self) -> None:
         """All that went wrong is right again."""
-        self.hidden, self.read_only, self.online = False, 0, self.present
+        self.happened += 1
+        self.hidden, self.read_only, self.starved, self.online = False, 0, 0, self.present
         for name, bundle in list(self.bundles.items()):
             if bundle.config is None or bundle.config == config_of(0, "90"):
                 self.count += 1
@@ -389,9 +507,11 @@ class World:
         told = {} if self.hidden else {name: self.found(name, bundle) for name, bundle in self.bundles.items()}
         paths = {container.seen.group.path for container in ledger.containers.values()} | ledger.taken.keys() | ledger.renewed.keys()
         paths |= {path for path, _ in ledger.before.values() if path} | {one.group.path for one in told.values() if isinstance(one, Found)}
+        paths |= {stranger.path for stranger in ledger.strangers.values()}
         groups = {path: self.group(path) for path in paths}
         held = {one.group.path for one in told.values() if isinstance(one, Found)}
-        held |= {path for path, entry in ledger.taken.items() if path in self.places and self.places[path].inode == entry.inode}
+        inodes = {**{stranger.path: stranger.inode for stranger in ledger.strangers.values()}, **{path: entry.inode for path, entry in ledger.taken.items()}}
+        held |= {path for path, inode in inodes.items() if path in self.places and self.places[path].inode == inode}
         self.seen = {path: group.cpus for path, group in groups.items() if path in held and isinstance(group, Group)}
         return Look(self.now, told, groups, Online(self.online))
 
@@ -408,7 +528,7 @@ class World:
         place = self.places.get(path)
         if place is None:
             return NoGroup(f"{path}: no such group")
-        return Group(path, place.inode, place.cpus, frozenset({0}), None, None, place.populated, (shown(place.cpus), "0"))
+        return Group(path, place.inode, place.cpus, frozenset({0}), None, self.limits.get(place.inode), place.populated, (shown(place.cpus), "0"))
 
 
 class Agent:
@@ -416,6 +536,7 @@ class Agent:
 
     def __init__(self, world: World) -> None:
         self.world = world
+        world.lose()
         taken, renewed = {}, {}
         for path, entry in world.taken.items():
             place = world.places.get(path)
@@ -423,27 +544,41 @@ class Agent:
                 taken[path] = entry
             elif place:
                 renewed[path] = entry
-        before: Dict[str, Tuple[Optional[str], Optional[bool]]] = {name: (path, None) for name, path in world.links.items()}
-        world.links.clear()
+        before: Dict[str, Tuple[Optional[str], Optional[bool]]] = {name: (path, None) for name, path in world.links.items() if name[0] != NAMELESS}
         world.copies.clear()
-        settings = Settings(world.machine, "", ROOT, homes=False, pool_least=world.pool_least, pause=1.0)
+        settings = Settings(world.machine, "", ROOT, homes=False, pool_least=world.pool_least, pause=1.0, lift=world.lifts)
         self.ledger = Ledger(settings, frozenset({0}), taken=taken, renewed=renewed, before=before)
         self.program: Optional[Program] = None
         self.trial: Optional[Program] = None
         self.offline: Cpus = frozenset()  # as the program was begun
         self.lines: List[str] = []  # that were said in the last look
         self.said: List[str] = []   # those of them that are warnings
+        self.known: Set[str] = set()  # the warnings since something happened last
+        self.happened = self.at_look = world.happened
         self.set_back: Dict[str, Dict[str, Cpus]] = {}  # in the last look, by who was told of on the reserved CPUs, what each other group requested then
+        self.tried: Dict[str, Cpus] = {}     # in the last look, what the last plan that was tried before gave to each
         self.denied: Set[str] = set()        # in the last look, who was refused
         self.is_short = self.is_disturbed = self.has_plan = False  # in the last look
 
     def look(self, troubled: bool) -> None:
         self.lines = []
-        self.said, self.set_back, self.denied, self.is_short, self.is_disturbed, self.has_plan = [], {}, set(), False, False, False
+        self.said, self.set_back, self.tried, self.denied = [], {}, {}, set()
+        self.is_short = self.is_disturbed = self.has_plan = False
         is_first = self.ledger.pool is None and not self.ledger.renewed
         found = self.world.look(self.ledger)
+        if self.at_look != self.world.happened:  # what came in the midst of the last look is seen by this one
+            self.known, self.at_look = set(), self.world.happened
         self.check_rest(found)
-        steps = decide(self.ledger, found)
+        self.world.is_within = True
+        try:
+            self.ledger = self.carry_out(decide(self.ledger, found), troubled)
+        finally:
+            self.world.is_within = False
+        self.check_strangers()
+        if is_first and self.ledger.pool is not None and not self.is_short and not self.is_disturbed:
+            self.check_beginnings()
+
+    def carry_out(self, steps: Steps[Ledger], troubled: bool) -> Ledger:
         try:
             command = next(steps)
             while True:
@@ -451,9 +586,8 @@ class Agent:
                     self.trouble()
                 command = steps.send(self.do(command))
         except StopIteration as end:
-            self.ledger = end.value
-        if is_first and self.ledger.pool is not None and not self.is_short and not self.is_disturbed:
-            self.check_beginnings()
+            known: Ledger = end.value
+            return known
 
     @property
     def rests(self) -> bool:
@@ -471,11 +605,19 @@ class Agent:
                 if not end.value.stands_as(self.ledger) or end.value.rest is None:
                     self.world.wrong.append("at rest, and something is known that was not")
 
+    def check_strangers(self) -> None:
+        """Behind each look numarun withholds what the agent knows of, and nothing else."""
+        names = self.program.strangers.keys() if self.program else set[str]()
+        if names - self.ledger.strangers.keys():
+            self.world.wrong.append(f"withheld, and the agent knows nothing of it: {names - self.ledger.strangers.keys()}")
+
     def check_beginnings(self) -> None:
-        """Behind the first plan of a run: who came, and has CPUs by it that nobody requested then, was never on the reserved CPUs alone."""
+        """Behind the first plan of a run: who came, and has CPUs by it that nobody requested then, nor those of the plan that was tried, which may be
+        another one, was never on the reserved CPUs alone."""
         for name, others in self.set_back.items():
             row = self.program.rows.get(name) if self.program else None
-            if row and row.cpus != RESERVED and not row.cpus & self.kept_off(row, others) - RESERVED:
+            tried = self.tried.get(name, row.cpus) if row else NO_CPUS
+            if row and row.cpus != RESERVED and not (row.cpus | tried) & self.kept_off(row, others) - RESERVED:
                 self.world.wrong.append(f"{name} was on the reserved CPUs, though nobody had {shown(row.cpus)}")
 
     def kept_off(self, row: Row, others: Dict[str, Cpus]) -> Cpus:
@@ -510,6 +652,7 @@ class Agent:
         if isinstance(command, Say):
             self.hear(command)
         elif isinstance(command, Start):
+            world.links, world.spent, self.known = dict(command.strangers), False, set()
             self.program, self.offline = Program(world, True, command.reserved, command.offline), command.offline
         elif isinstance(command, OpenTrial):
             assert self.program
@@ -524,6 +667,8 @@ class Agent:
             world.copies.discard(command.name)
         elif isinstance(command, SaveTaken):
             world.taken = dict(command.groups)
+        elif isinstance(command, SetLimit):
+            return world.set_limit(command)
         elif isinstance(command, Write):
             return Answer(why=None if world.write(command.path, read(command.text)) else f"{command.path}: Read-only file system")
         return Answer()
@@ -533,6 +678,8 @@ class Agent:
         assert program
         if isinstance(command, Ask):
             lines = program.ask(command.line)
+            if command.trial and lines[0].startswith("plan") and not self.set_back:
+                self.tried = {name: read(cpus) for kind, name, cpus in (line.split(" ") for line in lines[1:-2])}
         else:
             self.world.copies.add(command.name)
             lines = (program.tell(command),)
@@ -540,13 +687,14 @@ class Agent:
                 self.note_set_back(command, lines[0])
         gets_room = isinstance(command, Tell) and command.verb is Verb.UPDATE and not command.trial and not self.has_plan
         self.is_short, self.has_plan = self.is_short or lines[0].startswith("short") and not command.trial, self.has_plan or lines[0].startswith("plan") and not command.trial
-        self.is_disturbed = self.is_disturbed or gets_room or lines[0] == NO_WRITE
+        self.is_disturbed = self.is_disturbed or gets_room or lines[0] in (NO_WRITE, NO_MEMORY)
         return Answer(lines, (f"{self.world.refused}: Read-only file system",) if lines[0] == NO_WRITE else ())
 
     def hear(self, command: Say) -> None:
         self.lines.append(command.line)
         if command.level is Level.WARNING:
             self.said.append(command.line)
+            self.check_twice(command.line)
         kind, _, name = command.line.partition(" ")
         container = self.ledger.containers.get(name)
         self.is_disturbed = self.is_disturbed or kind == "ended"
@@ -554,3 +702,11 @@ class Agent:
             place = self.world.places.get(container.seen.group.path)
             if place and place.populated and place.inode == container.seen.group.inode:
                 self.world.wrong.append(f"{name} has a process, and was given up")
+
+    def check_twice(self, line: str) -> None:
+        """No warning is said again as long as nothing happens; but to another run all is told anew, and what is refused then is said again."""
+        if self.happened != self.world.happened:
+            self.known, self.happened = set(), self.world.happened
+        if line in self.known:
+            self.world.wrong.append(f"said twice: {line}")
+        self.known.add(line)

@@ -1,5 +1,5 @@
-"""Feeds what is not as it ought to be, 200 of each kind: configs, states of runtimes, entries of watched folders, files of groups, what is said at the
-agent's socket and on its standard input, machine files, answers with certificates. What can't be had is named in a line with its path and the reason,
+"""Feeds what is not as it ought to be, 200 of each kind: configs, states of runtimes, entries of watched folders, files of groups, what an agent has
+left in its folder, options in files, what is said at the agent's socket and on its standard input, machine files, answers with certificates. What can't be had is named in a line with its path and the reason,
 the others go on, and nothing ends by a traceback. What is fed is drawn by a seed, and kept in no file of the repository."""
 
 from __future__ import annotations
@@ -10,21 +10,25 @@ import random
 import re
 import socket
 import subprocess
+import sys
+import tempfile
 import time
-from typing import Callable, Iterator, List, Sequence, Set, Tuple
+import traceback
+from typing import Callable, Dict, Iterator, List, Mapping, Sequence, Set, Tuple
 
-from sites import Open, Site, config_of, of, section_of, untimed
-from trial import EXAMPLES, SECONDS, case, check, command, long_case, scratch, told, written
-from numarun_host import answers, explain
+from sites import IN_FOLDERS, Open, Site, config_of, of, section_of, untimed
+from trial import EXAMPLES, SECONDS, Told, case, check, command, long_case, scratch, text_of, told, written
+from numarun_host import agent, answers, explain
 from numarun_host.hooks import near
 from numarun_host.machine import Machine
-from numarun_host.script import Refused
+from numarun_host.script import Refused, run
 from numarun_host.sources import is_word
 
 COUNT = 200
 SEED = 20261129
 LARGE = 64 << 20
 DEPTHS = (50, 126, 127, 128, 129, 500, *range(940, 996, 4))  # of well-formed members, up to what Python's reader refuses
+DEEP = (50, 300, 600, 900)
 STAMPED = re.compile(r"\d{4}-\d\d-\d\dT\d\d:\d\d:\d\d\.\d{3} \S")
 ODD_VALUES: Sequence[object] = (
     None, True, 0, -1, 1 << 63, 10 ** 400, 1.5, float("nan"), float("inf"), "", "x", "\ud800", "a\0b", "a\nb", "../..", "/" * 5000, "9" * 5000, "0-", "4-1",
@@ -57,16 +61,16 @@ def with_other(value: object, path: Sequence[object], other: object) -> object:
     return [with_other(member, rest, other) if k == key else member for k, member in enumerate(value)]
 
 
-def odd_text(chance: random.Random, whole: object) -> bytes:
+def odd_text(chance: random.Random, whole: object, text_of: Callable[[object], str] = json.dumps) -> bytes:
     """A text that is like that of this value, and is none, or one of another value."""
-    text = json.dumps(whole).encode()
+    text = text_of(whole).encode()
     at = chance.randrange(len(text))
     ways: Sequence[Callable[[], bytes]] = (
         lambda: text[:at], lambda: text[:at] + bytes([chance.randrange(256)]) + text[at + 1:], lambda: text[:at] + text[at + 1:],
         lambda: bytes(chance.randrange(256) for _ in range(chance.randrange(300))), lambda: b"\0" * chance.choice((1, 5000)), lambda: b"\xef\xbb\xbf" + text,
         lambda: text + text, lambda: text[:at] + b"\0" + text[at:], lambda: b"[" * chance.choice((10, 900, 100000)),
-        lambda: json.dumps(nested(chance.choice((50, 300, 600, 900)))).encode(), lambda: text.replace(b'"', b"'"),
-        lambda: json.dumps(with_other(whole, chance.choice(list(places(whole))), chance.choice(ODD_VALUES))).encode())
+        lambda: text_of(nested(chance.choice(DEEP))).encode(), lambda: text.replace(b'"', b"'"),
+        lambda: text_of(with_other(whole, chance.choice(list(places(whole))), chance.choice((*ODD_VALUES, nested(chance.choice(DEEP)))))).encode())
     few = 0 if chance.random() < 0.5 else len(ways) - 1  # half of them are JSON of other values
     return ways[few or chance.randrange(len(ways))]()
 
@@ -76,19 +80,19 @@ def deep_member(text: bytes, depth: int) -> bytes:
     return text[:-1] + b', "deep": ' + b"[" * depth + b"]" * depth + b"}"
 
 
-def odd_file(chance: random.Random, path: str, text: bytes) -> None:
-    """In the place of a file: this text, or a folder, a pipe, a link in a circle or to nothing or without an end, a large file."""
+def odd_file(chance: random.Random, path: str, text: bytes, links: Sequence[str] = ("/dev/zero", "/dev/null", "/proc/self/mem"), pipes: bool = True) -> None:
+    """In the place of a file: this text, or a folder, a pipe, a link in a circle or to nothing or to one of these, a large file."""
     way = chance.randrange(20)
     if way == 0:
         os.makedirs(path)
-    elif way == 1:
+    elif way == 1 and pipes:
         os.mkfifo(path)
     elif way == 2:
         os.symlink(path, path)
     elif way == 3:
         os.symlink("/no/such", path)
     elif way == 4:
-        os.symlink(chance.choice(("/dev/zero", "/dev/null", "/proc/self/mem")), path)
+        os.symlink(chance.choice(links), path)
     else:
         with open(path, "wb") as file:
             file.write(text)
@@ -203,30 +207,47 @@ def folders() -> None:
 
 @case
 def watched_folders() -> None:
-    """A file, a link in a circle, a pipe in the place of a watched folder: a line, and the others go on."""
-    site = made()
+    """A file, a link in a circle, a pipe in the place of a watched folder, and all of them: a line for each, and the others go on: somebody comes
+    beside them, and ends, and a CPU goes and comes."""
+    site, bad = made(), ("file", "circle", "pipe")
     written(site.at("file"), "")
     os.symlink(site.at("circle"), site.at("circle"))
     os.mkfifo(site.at("pipe"))
-    for path in ("file", "circle", "pipe"):
-        lines = run_of(site, "--watch", site.at(path), rounds="2")
-        check(f"{path}: named", len(of(lines, f"failed {site.at(path)}: ")), 1)
-        check(f"{path}: the others stand", site.has("good", "other"), ["1-2", "3"])
+    for paths in (*((name,) for name in bad), bad):
+        agent = Open(site, *(word for name in paths for word in ("--watch", site.at(name))))
+        agent.until("adopt other")
+        site.come("new", 1)
+        agent.until("create new")
+        agent.until("done")
+        check(f"{paths}: who comes has CPUs", site.has("good", "other", "new"), ["1-2", "3", "4"])
+        site.online("0-6")
+        agent.until("offline 7")
+        site.go("new")
+        agent.until("ended new")
+        site.online("0-7")
+        agent.until("online 7")
+        status, rest = agent.end()
+        named = [len(of(agent.lines + rest, f"failed {site.at(name)}: ")) for name in paths]
+        check(f"{paths}: each is named once", (status, named), (1, [1] * len(paths)))
+        goes_on(site, agent.lines + rest)
 
 
 @case
 def group_files() -> None:
-    """In the files of a container's group, of which some are not there."""
+    """In the place of the files of containers' groups. None of these links leads out of the case's folder, and there are pipes only where numarun
+    opens nothing: it writes there, and waits as the kernel lets nobody wait."""
     site, chance = made(), random.Random(SEED + 3)
+    with open(site.at("large"), "wb") as large:
+        large.truncate(LARGE)
     contents = [b"", b"\xff\xfe", b"x", b"1-", b"99999", b"0-4095\n" * 3, b"\0" * 100, b"max 0", b"populated 2", b"-1", b"0" * 70000, b"max", b"1 1 1", b"populated 1"]
-    for k in range(COUNT // 10):
+    for k in range(COUNT // 5):
         site.come(f"c{k:02}", 1 + k % 2)
         for file in ("cpuset.cpus", "cpuset.mems", "cpuset.cpus.effective", "cpu.max", "cgroup.events"):
             path = site.at(f"root/numarun/c{k:02}", file)
-            with open(path, "wb") as odd:
-                odd.write(chance.choice(contents))
-            if chance.random() < 0.1:
+            if os.path.lexists(path):
                 os.remove(path)
+            if chance.random() > 0.05:
+                odd_file(chance, path, chance.choice(contents), [site.at("large"), "large"], pipes=not file.startswith("cpuset."))
     agent = Open(site)
     agent.until("adopt other")
     time.sleep(2)
@@ -295,6 +316,138 @@ def lines_of_input() -> None:
     check("nothing on standard error", (ran.returncode, ran.stderr), (1, b""))
     goes_on(site, lines)
     check("the last one is named", [line for line in lines if line.startswith(f"refused: line {COUNT + 3}: ")] != [], True)
+
+
+def in_child(*words: str) -> Told:
+    """What the agent's program does with these words, in a process that has read its source already."""
+    sys.stdout.flush()
+    with tempfile.TemporaryFile() as out, tempfile.TemporaryFile() as err:
+        child = os.fork()
+        if child == 0:
+            status = 1
+            try:
+                os.dup2(out.fileno(), 1)
+                os.dup2(err.fileno(), 2)
+                sys.argv = ["numarun-agent", *words]
+                run(agent.main)
+            except SystemExit as end:
+                status = end.code if isinstance(end.code, int) else 1
+                print(end.code if isinstance(end.code, str) else "", end="\n" * isinstance(end.code, str), file=sys.stderr)
+            except BaseException:
+                traceback.print_exc()
+            sys.stdout.flush()
+            sys.stderr.flush()
+            os._exit(status)
+        status = os.waitstatus_to_exitcode(os.waitpid(child, 0)[1])
+        out.seek(0)
+        err.seek(0)
+        return status, out.read().decode(), err.read().decode()
+
+
+def removed(path: str) -> None:
+    """What odd_file left there is gone."""
+    if os.path.isdir(path) and not os.path.islink(path):
+        os.rmdir(path)
+    elif os.path.lexists(path):
+        os.remove(path)
+
+
+def as_they_were(text: bytes, groups: Mapping[str, object]) -> Set[str]:
+    """The groups of which a record still says what it said, where it is one."""
+    try:
+        found = json.loads(text.decode())["groups"]
+        return {path for path, entry in groups.items() if found[path] == entry} if isinstance(found, dict) and groups.keys() <= found.keys() else set()
+    except (ValueError, RecursionError, KeyError, TypeError):
+        return set()
+
+
+@case
+def records_of_taken() -> None:
+    """In the place of what an agent kept of groups: what can be given back of it is."""
+    site, chance, names = Site(), random.Random(SEED + 9), ("a", "b", "c")
+    for name in names:
+        site.make_group(name)
+    paths = {name: site.at("root/numarun", name) for name in names}
+    groups: Dict[str, object] = {paths[name]: [os.stat(paths[name]).st_ino, "5-6", "0", False, [5, 10]] for name in names}
+    whole = {"all": ["0-7", "0"], "groups": groups, "listed": [paths["a"]]}
+    kept, count = site.at("work/taken.json"), 0
+    os.makedirs(site.at("work"))
+    for k in range(COUNT):
+        removed(kept)
+        text = odd_text(chance, whole)
+        odd_file(chance, kept, text)
+        for name in names:
+            site.put(f"numarun/{name}", "cpuset.cpus", "1")
+        is_text = os.path.isfile(kept) and os.path.getsize(kept) == len(text)
+        status, out, err = in_child("release", "--cgroup", site.at("root"), "--work", site.at("work"))
+        check(f"{k}: a line at most", (status in (0, 1), err == "" or err.startswith(f"numarun-agent: {kept}: ") and err.count("\n") == 1), (True, True))
+        left = as_they_were(text, groups) if is_text else set()
+        given = {path for path in left if text_of(os.path.join(path, "cpuset.cpus")) == "5-6\n"}
+        check(f"{k}: the others are given back", (given, out.count("given back") >= len(left)), (left, True))
+        count += len(left) > 0
+    check("some of each", 0 < count < COUNT, True)
+
+
+@case
+def last_states() -> None:
+    """In the place of an agent's last state: a table, or JSON, and a line of why no agent answers."""
+    site, chance = Site(), random.Random(SEED + 10)
+    entry: Dict[str, object] = {"id": "a", "title": "a", "state": "pinned", "cpus": "1", "nodes": "0", "asks": 1, "given": 1, "lifted": "", "why": ""}
+    whole = {"running": False, "ended": True, "time": "x", "reserved": "0", "offline": "-", "pool": "2-7", "containers": [entry, dict(entry, why="waits a")],
+             "plan": {"total": 10, "beyond_local": 0, "certificate": ""}, "undone": [{"kind": "waits", "of": "a", "line": "waits a"}]}
+    os.makedirs(site.at("work"))
+    shown: Set[bool] = set()
+    for k in range(COUNT):
+        removed(site.at("work/status.json"))
+        odd_file(chance, site.at("work/status.json"), odd_text(chance, whole))
+        status, out, err = in_child("status", "--agent", site.at("work/hooks"), *(["--json"] if k % 2 else []))
+        check(f"{k}", (status, "no agent answers" in err, "Traceback" in err), (1, True, False))
+        shown.add(bool(out))
+    check("both were met", shown, {True, False})
+
+
+@case
+def records_of_partitions() -> None:
+    """In the place of what was there before an agent made a partition. No pipe is fed: nobody but the agent writes there."""
+    site, chance, group = Site(), random.Random(SEED + 11), "pinned"
+    written(site.at("root/cgroup.controllers"), "cpuset\n")
+    path = site.at("root", group)
+    for k in range(COUNT):
+        removed(site.at("work/partition.json"))
+        os.makedirs(path, exist_ok=True)
+        os.makedirs(site.at("work"), exist_ok=True)
+        for file, text in (("cpuset.cpus", "1-2"), ("cpuset.cpus.partition", "root"), ("cpuset.cpus.exclusive", "")):
+            written(os.path.join(path, file), f"{text}\n")
+        whole = {"path": path, "inode": os.stat(path).st_ino, "made": [], "files": {f"{path}/cpuset.cpus": "", f"{path}/cpuset.cpus.exclusive": ""}}
+        odd_file(chance, site.at("work/partition.json"), odd_text(chance, whole), pipes=False)
+        status, out, err = in_child("release", "--cgroup", site.at("root"), "--work", site.at("work"))
+        check(f"{k}", (status in (0, 1), "Traceback" in err, err.count("\n") <= 1), (True, False, True))
+
+
+def toml_of(value: object) -> str:
+    """A file of --config with these members, as far as TOML has such; or what JSON has."""
+    return "\n".join(f"{key} = {json.dumps(member)}" for key, member in value.items()) if isinstance(value, dict) else json.dumps(value)
+
+
+def words_of(value: object) -> str:
+    """A file of words for these members; or what JSON has."""
+    return "\n".join(f"--{key}={json.dumps(member)}" for key, member in value.items()) if isinstance(value, dict) else json.dumps(value)
+
+
+@case
+def files_of_options() -> None:
+    """In the place of a file of --config, and of one that `@FILE` names: the words are had, or refused by a line with the file's path or the
+    option."""
+    site, chance = Site(), random.Random(SEED + 12)
+    whole = {"watch": ["/g", "/h"], "cgroup": site.at("root"), "pool": "taskset -c", "pause": 2, "pool-least": "10%", "rest": "system.slice", "lift": True,
+             "keep": 7, "pin": "all", "runtime": ["crun"], "textfile": "/f.prom", "certificates": "/certificates"}
+    for k in range(2 * COUNT):
+        path, is_toml = scratch(f"options{k}"), k % 2 == 0
+        odd_file(chance, path, odd_text(chance, whole, toml_of if is_toml else words_of), pipes=False)
+        words = ["--config", path] if is_toml else [f"@{path}"]
+        status, out, err = in_child("check-config", site.at("machine.json"), "--program", IN_FOLDERS, *words)
+        check(f"{k}: had or refused", (status in (0, 1, 2), "Traceback" in err, bool(out) != bool(err)), (True, False, True))
+        check(f"{k}: with its path", status != 1 or err.startswith(f"numarun-agent: {path}: ") and err.count("\n") == 1, True)
 
 
 def refused_or_read(path: str, read: Callable[[str], object]) -> str:

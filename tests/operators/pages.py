@@ -24,7 +24,8 @@ PACKAGE = pathlib.Path(OPERATORS) / "numarun_host"
 PAGES: Dict[str, str] = {path.name: path.read_text() for path in pathlib.Path(OPERATORS).glob("*.md")}
 PROGRAMS = ("numarun-agent", "numarun-agent status", "numarun-agent add-service", "numarun-hook", "numarun-runc", "numarun-dry-run", "numarun-explain", "numarun-draw-plan", "numarun-describe host",
             "numarun-describe hwloc", "install.sh")
-OF_OTHERS = {"--annotation", "--env", "--of", "--disallowed", "--now", "--sort", "--cpu-quota", "--name", "--root", "--runc-binary", "--cgroup-parent", "--cgroup-manager", "--memory"}  # options of other programs
+OF_OTHERS = {"--annotation", "--env", "--of", "--disallowed", "--now", "--sort", "--cpu-quota", "--name", "--root", "--runc-binary", "--cgroup-parent", "--cgroup-manager", "--memory",
+             "--all", "--bundle", "--detach", "--exec-id", "--infra", "--network", "--no-pivot", "--pod", "--signal"}  # options of other programs
 OF_THE_SYSTEM = {"No such file or directory", "No space left on device"}
 OPTION = re.compile(r"(?<![\w-])--[a-z][a-z-]+")
 
@@ -47,7 +48,7 @@ def says_each_line() -> None:
     words, others = log_words.first_words(PACKAGE)
     verb = {other for other in others if other.startswith("f'{verb.value} ")}
     check("lines that are seen in the source or written down by hand", sorted(others - verb), sorted(log_words.BY_HAND))
-    words |= {kind.value for kind in Kind} | {verb.value for verb in Verb} | {word for by_hand in log_words.BY_HAND.values() for word in by_hand}
+    words |= {kind.word for kind in Kind} | {verb.value for verb in Verb} | {word for by_hand in log_words.BY_HAND.values() for word in by_hand}
     said = [row for row in rows("log.md") if row[0].startswith(("`", "any other `", "the same"))]
     there = {word.split()[0].rstrip(":") for row in said for word in re.findall(r"`([^`]+)`", row[0])}
     check("words that the log page lacks", sorted(words - there), [])

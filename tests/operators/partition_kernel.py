@@ -42,6 +42,7 @@ class Node:
     text: str = MEMBER
     gives: bool = False      # whether it gives the controller to those below
     processes: bool = False
+    keeps: bool = False      # two deep: a group beside broke it, and it keeps its CPUs until it is a member
 
 
 @dataclass
@@ -52,6 +53,7 @@ class Kernel:
     online: Cpus
     is_new: bool = True     # whether it has cpuset.cpus.exclusive, and tries again where an invalid one is told to be a root
     has: bool = True        # whether it has partitions
+    is_v2: bool = True      # whether the tree is one of cgroup v2
     nodes: Dict[str, Node] = field(default_factory=lambda: {TOP: Node(1, processes=True)})
     inodes: int = 1
     record: Optional[Before] = None
@@ -82,11 +84,16 @@ class Kernel:
     def roots(self) -> Iterator[str]:
         return (path for path, node in self.nodes.items() if node.text in (ROOT, ISOLATED))
 
+    def has_its_own(self, path: str) -> bool:
+        """Whether its CPUs are in effect nowhere else."""
+        node = self.nodes[path]
+        return node.text in (ROOT, ISOLATED) or (node.keeps and node.text != MEMBER)
+
     def effective(self, path: str) -> Cpus:
         node = self.nodes[path]
         if path == TOP:
-            return self.online - NO_CPUS.union(*(self.nodes[root].cpus for root in self.roots()))
-        if node.text in (ROOT, ISOLATED):
+            return self.online - NO_CPUS.union(*(node.cpus for other, node in self.nodes.items() if self.has_its_own(other)))
+        if self.has_its_own(path):
             return node.cpus & self.online
         above = self.effective(path.rpartition("/")[0])
         return node.cpus & above or above
@@ -100,7 +107,7 @@ class Kernel:
     def read(self, path: str) -> Optional[str]:
         group, _, file = path.rpartition("/")
         node = self.nodes.get(group)
-        if node is None or (file == "cgroup.controllers" and group != TOP):
+        if node is None or (file == "cgroup.controllers" and not (group == TOP and self.is_v2)):
             return None
         if file == "cgroup.controllers":
             return "cpuset"
@@ -121,7 +128,11 @@ class Kernel:
         return node.text if file == FILE and self.has else None
 
     def inode(self, path: str) -> Optional[int]:
-        return self.nodes[path].inode if path in self.nodes else None
+        """What stat(2) finds, which knows files too."""
+        return self.nodes[path].inode if path in self.nodes else 2 if self.is_file(path) else None
+
+    def is_file(self, path: str) -> bool:
+        return path not in self.nodes and self.read(path) is not None
 
     # What changes.
 
@@ -139,7 +150,7 @@ class Kernel:
             return errno.ENOSPC
         met = [other for other in self.conflicts(path, asked) if self.nodes[other].text in (ROOT, ISOLATED)]
         for other in met:
-            self.nodes[other].text = NOT_EXCLUSIVE
+            self.nodes[other].text, self.nodes[other].keeps = NOT_EXCLUSIVE, self.is_deep(other)
         was, node.cpus = node.text, asked
         if was.startswith("root invalid"):
             node.text = ROOT  # falsely, where the cause is still there
@@ -180,7 +191,7 @@ class Kernel:
     def set_text(self, path: str, text: str) -> Optional[int]:
         node = self.nodes[path]
         if text == MEMBER:
-            node.text = MEMBER
+            node.text, node.keeps = MEMBER, False
         elif node.text == MEMBER or (self.is_new and node.text != text):
             node.text = self.judged(path, text)
         return None
@@ -287,7 +298,7 @@ class Kernel:
 
     def patches(self) -> Dict[str, Any]:
         """What stands in the place of the functions of partition_files that reach the system."""
-        return {"read_file": self.read, "write_file": self.write, "children": self.children, "inode_of": self.inode, "save": self.save,
+        return {"read_file": self.read, "write_file": self.write, "children": self.children, "inode_of": self.inode, "is_file": self.is_file, "save": self.save,
                 "read_before": lambda _: copy.deepcopy(self.record), "forget": self.forget}
 
 

@@ -60,9 +60,9 @@ def who_asks() -> None:
 
 @case
 def what_is_online() -> None:
-    """What the root would have without it: a partition has its CPUs for itself, a member or an invalid one has not."""
+    """What the root would have without it: a partition has its CPUs for itself, and so may have an invalid one; a member has not."""
     found = {text: print_list(of(text, "1-3", above="0,4-7").online or NO_CPUS) for text in (ROOT, ISOLATED, MEMBER, INVALID, None)}
-    check("online", found, {ROOT: "0-7", ISOLATED: "0-7", MEMBER: "0,4-7", INVALID: "0,4-7", None: "0,4-7"})
+    check("online", found, {ROOT: "0-7", ISOLATED: "0-7", MEMBER: "0,4-7", INVALID: "0-7", None: "0,4-7"})
     check("not known", of(ROOT, "1-3", above="").online, None)
     asks = (beside("3"),)
     check("valid", [seen.is_valid for seen in (of(ROOT, "1-3"), of(ROOT, "1-3", beside=asks), of(ROOT, "1-3", "1-3", "1-3", beside=asks), of(MEMBER, "1-3"))],

@@ -13,13 +13,13 @@ from typing import Callable, Dict, Iterator, List, Mapping, Optional, Sequence, 
 from unittest import mock
 
 from partition_kernel import NOT_EXCLUSIVE, NO_SUCH, TOP, UNABLE, Eyes, Kernel, Killed, World, cpus
-from trial import EXAMPLES, case, check, long_case
+from trial import EXAMPLES, case, check, long_case, scratch, text_of, written
 from numarun_host import partition, partition_files, partitioning
 from numarun_host.commands import Answer, LookAtPartition, MakeGroup, Say, Steps, Write
 from numarun_host.cpus import NO_CPUS, Cpus, print_list
 from numarun_host.ledger import Ledger, Settings
-from numarun_host.machine import Machine
-from numarun_host.partition import CPUS_FILE, FILE, MEMBER, ROOT, Beside, Layout, Loose, Partition, Step, Stop
+from numarun_host.machine import Machine, add_cpus
+from numarun_host.partition import CONTROLS, CPUS_FILE, FILE, MEMBER, ROOT, Beside, Layout, Loose, Partition, Step, Stop
 from numarun_host.partition_files import Before, give_back, layout_of, make
 from numarun_host.partitioning import keep_partition, wanted_by
 from numarun_host.script import Refused
@@ -452,14 +452,36 @@ def loose() -> None:
 
 
 @case
+def loose_again() -> None:
+    """They are looked for now and then, and at once where it is a partition again, which may have moved them."""
+    kernel, layout = Kernel(CPUS), layout_of(TOP, "pinned")
+    with over(kernel):
+        make(layout, PRESENT, "")
+        eyes, seen = Eyes(kernel, layout), [Loose(7, "sh", cpus("3"))]
+        with mock.patch.object(partition_files, "loose_in", lambda root, asked: tuple(seen)):
+            check("at first", eyes.look(0.0).loose, tuple(seen))
+            seen.clear()
+            check("not a second later", len(eyes.look(1.0).loose), 1)
+            kernel.nodes["/c/pinned"].text = NOT_EXCLUSIVE
+            check("of none that is broken", eyes.look(2.0).loose, ())
+            kernel.nodes["/c/pinned"].text = ROOT
+            check("anew", eyes.look(3.0).loose, ())
+
+
+@case
 def loose_by_thread() -> None:
-    """Each process of the root group that may run there by one of its threads, also by one that is bound to one CPU; no kernel thread."""
-    files = {"/c/cgroup.procs": "7 8 9 10"}
-    for pid, flags, masks in ((7, 0, ("0", "3")), (8, 0x00200000, ("3",)), (9, 0, ("0", "0")), (10, 0, ("0-7",))):
+    """Each process of the root group that may run there by one of its threads, also by one that is bound to one CPU; no kernel thread, and nobody who
+    has left the group meanwhile for that of a container."""
+    files: Dict[str, str] = {}
+    for pid, flags, masks in ((7, 0, ("0", "3")), (8, 0x00200000, ("3",)), (9, 0, ("0", "0")), (10, 0, ("0-7",)), (11, 0, ("3",))):
         files[f"/proc/{pid}/stat"] = f"{pid} (a (b) c) S 1 1 1 0 -1 {flags} 0 0"
         files.update({f"/proc/{pid}/task/{k}/status": f"Name:\tx\nCpus_allowed_list:\t{mask}\n" for k, mask in enumerate(masks)})
-    threads = {pid: [path.rpartition("/")[0] for path in files if path.startswith(f"/proc/{pid}/task/")] for pid in (7, 8, 9, 10)}
-    with mock.patch.multiple(partition_files, read_file=files.get, children=lambda path: threads[int(path.split("/")[2])]):
+    threads = {pid: [path.rpartition("/")[0] for path in files if path.startswith(f"/proc/{pid}/task/")] for pid in range(7, 12)}
+    members = iter(("7 8 9 10 11", "7 8 9 10 12"))
+
+    def read(path: str) -> Optional[str]:
+        return next(members) if path == "/c/cgroup.procs" else files.get(path)
+    with mock.patch.multiple(partition_files, read_file=read, children=lambda path: threads[int(path.split("/")[2])]):
         check("loose", list(partition_files.loose_in(TOP, cpus("2-4"))), [Loose(7, "a (b) c", cpus("3")), Loose(10, "a (b) c", cpus("2-4"))])
 
 
@@ -532,6 +554,8 @@ def refused() -> None:
         ("none of them", Kernel(CPUS), {}, "pinned", "8-9", "--partition: /c has none of the CPUs 8-9"),
         ("no name", Kernel(CPUS), {}, "/", "1-7", "--partition: '/' is no group below /c"),
         ("a way out", Kernel(CPUS), {}, "../x", "1-7", "--partition: '../x' is no group below /c"),
+        ("a file", Kernel(CPUS), {}, "cgroup.procs", "1-7", "--partition: /c/cgroup.procs is a file, and no group"),
+        ("cgroup v1", Kernel(CPUS, has=False, is_v2=False), {}, "pinned", "1-7", "--partition: /c: no cgroup v2 tree"),
         ("a group beside", Kernel(CPUS), beside, "pinned", "1-7", "--partition: /c/s requests 3"),
         ("a partition beside", Kernel(CPUS), {"/c/s": {"cpus": cpus("3"), "text": ROOT}}, "pinned", "1-7", "--partition: /c/s requests 3"),
         ("two deep beside one that requests more", Kernel(CPUS), beside, "a/b", "1-7", ROOT),
@@ -557,6 +581,36 @@ def refused() -> None:
                 got = str(why)
             check(what, got, wanted)
             check(f"{what}: what is left", got == ROOT or (kernel.nodes == before and kernel.record is None), True)
+
+
+@case
+def no_group() -> None:
+    """A file in a folder, also where the way to the group leads over it: nothing is kept or written."""
+    top = scratch("tree")
+    for folder in (top, scratch("work")):
+        os.mkdir(folder)
+    for file in ("cgroup.procs", CONTROLS, "cgroup.controllers"):
+        written(os.path.join(top, file), "")
+    for group in ("cgroup.procs", "cgroup.procs/x"):
+        try:
+            make(layout_of(top, group), PRESENT, scratch("work"))
+            got = "made"
+        except Refused as why:
+            got = str(why)
+        check(group, got, f"--partition: {top}/cgroup.procs is a file, and no group")
+        check(f"{group}: what is left", (text_of(os.path.join(top, CONTROLS)), os.listdir(scratch("work"))), ("", []))
+
+
+@case
+def lacking() -> None:
+    """A machine file's object with CPUs that it lacks: they are on the node of the first reserved one, in cores as large as the others."""
+    def file(*nodes: str, **more: object) -> Mapping[str, object]:
+        return {"nodes": list(nodes), "reserved": "5", "about": "x", **more}
+    check("without cores", add_cpus(file("2-3", "", "4-5"), cpus("0,7-8")), file("2-3", "", "0,4-5,7-8"))
+    check("with cores", add_cpus(file("2-3", "", "4-5", cores=["2-3", "4-5"]), cpus("0-1,7-8")),
+          file("2-3", "", "0-1,4-5,7-8", cores=["2-3", "4-5", "0-1", "7-8"]))
+    with contextlib.suppress(Refused):
+        check("half a core", add_cpus(file("2-3", "", "4-5", cores=["2-3", "4-5"]), cpus("0-1,7")), "refused")
 
 
 @case

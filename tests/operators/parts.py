@@ -10,14 +10,15 @@ import model
 from decided import EIGHT, FOUR, asks, config_of, container, cpus, done, ledger_of, looked, machine_of, said, sighting
 from trial import case, check
 from numarun_host import beginnings, changes, configs, newcomers, plans, room, telling
-from numarun_host.beginnings import Comer
+from numarun_host.beginnings import Comer, Wait
 from numarun_host.commands import Answer, Ask, CloseTrial, Command, Drop, KeepCertificate, Link, OpenTrial, RunPool, SaveTaken, Say, SetLimit, Steps, T, Taken, Tell, Unlink, Verb, Write
 from numarun_host.configs import Demand
 from numarun_host.cpus import print_list
-from numarun_host.ledger import Kind, Ledger, Pause, Problem, State, Topic
+from numarun_host.decide import decide
+from numarun_host.ledger import Kind, Ledger, Pause, Problem, State, Topic, is_undone
 from numarun_host.room import Outcome, Shortage
 from numarun_host.script import Refused
-from numarun_host.seen import Found, Group, Look, Missing, Told
+from numarun_host.seen import Found, Group, Look, Missing, Online, Told
 from numarun_host.telling import Reply, Turn
 
 
@@ -70,9 +71,18 @@ def failures() -> None:
     ledger.pauses["update", ""] = Pause(11.0, 1.0)
     commands, taken = done(telling.tell_update(Turn(ledger, Look(10.0)), "a", asking(3)["demand"]))
     check("taken", (said(commands), taken, ledger.pauses), (["update a /b"], True, {}))
+    ledger.problems = {(Topic.CONTAINER, "a"): Problem(Kind.UNTOLD, "a", "a")}
+    done(telling.tell_update(Turn(ledger, Look(10.0)), "a", asking(3)["demand"]))
+    check("nothing of it is left", ledger.problems, {})
     new = found("a", config_of())
     for answer, line in (("refused E111 NoBundle", "absent a: /g/a: can't be read"), ("refused E50 KernelFault", "failed refused E50 KernelFault")):
-        check(f"one that comes: {answer}", said(looked(ledger_of(), {"create": [answer], "adopt": [answer]}, told={"a": new}, groups=groups_of(new))[0]), [line])
+        commands, ledger = looked(ledger_of(), {"create": [answer], "adopt": [answer]}, told={"a": new}, groups=groups_of(new))
+        check(f"one that comes: {answer}", said(commands), [line])
+        for now in (10.5, 20.0):
+            commands, ledger = looked(ledger, {"create": [answer], "adopt": [answer]}, told={"a": new}, groups=groups_of(new), now=now)
+            check(f"it is left until it is told: {answer} at {now}", (said(commands), [problem.line for problem in ledger.problems.values()]), ([], [line]))
+        commands, ledger = looked(ledger, told={"a": new}, groups=groups_of(new), now=90.0)
+        check(f"and told: {answer}", (said(commands)[:1], ledger.problems), (["create a /g/a"], {}))
 
 
 # Who comes.
@@ -452,7 +462,7 @@ def who_begins_to_wait() -> None:
     several = (comer("k", 3, "1-3"), comer("s", None, "4"), comer("t", None), comer("fits", 2), comer("more", 1), comer("all", 8), comer("refused", 9))
     lines = {name: f"it would leave {left} CPUs to the pool, and that keeps 3" for name, left in (("more", 2), ("all", 0))}
     for keeps in (0, 3):
-        check(f"the pool keeps {keeps}", beginnings.those_who_wait(ledger_of(pool_least=keeps), several), lines if keeps else {})
+        check(f"the pool keeps {keeps}", beginnings.those_who_wait(Turn(ledger_of(pool_least=keeps), Look(10.0)), several), lines if keeps else {})
 
 
 @case
@@ -465,8 +475,17 @@ def beginnings_by_plan() -> None:
     check("the trial is closed", [type(each) for each in commands][-1], CloseTrial)
     short = ["short demand 9 allowed 1-7", "member a", "member k", "end"]
     commands, (outcome, waits) = done(beginnings.plan_of(Turn(ledger_of(), Look(10.0)), (comer("a", 5), comer("k", 1, "1"), comer("young", 5))), {"rebalance": short})
-    check("who waits", (waits, outcome.is_plan), ({"a": "short demand 9 allowed 1-7"}, False))
+    check("who waits", (waits, outcome.is_plan), ({"a": Wait("short demand 9 allowed 1-7")}, False))
     check("it is ended in the trial", [each.line for each in commands if isinstance(each, Ask)], ["rebalance", "kill a KILL", "delete a", "rebalance"])
+    kept = Turn(ledger_of(certificates="/c"), Look(10.0))
+    commands, (_, waits) = done(beginnings.plan_of(kept, (comer("a", 5), comer("k", 1, "1"))), {"rebalance": short, "": ["/c/1"]})
+    check("by which certificate", (waits, [each.trial for each in commands if isinstance(each, Ask) and each.line == "certificate"]), ({"a": Wait(short[0], "/c/1")}, [True]))
+    come = {name: found(name, asks(count)) for name, count in (("a", 5), ("w", 4))}
+    lacking = ["short demand 9 allowed 1-7", "member a", "member w", "end"]
+    tried = iter([lacking, ["plan total 50", "hold a 1-5", "pool 0,6-7", "end"]])
+    commands, ledger = answered(decide(ledger_of(certificates="/c"), Look(10.0, told=come, groups=groups_of(*come.values()), online=Online(cpus("0-7")))),
+                                lambda line: next(tried, lacking) if line == "rebalance" else ["ok"])
+    check("and so it is told", {name: (held.state, held.certificate) for name, held in ledger.containers.items()}, {"a": (State.ASKING, ""), "w": (State.WAITING, "ok")})
 
 
 @case
@@ -509,7 +528,7 @@ def followed_once() -> None:
     """What is told of one that is to wait, or is on the pool; what is said of it, and what was left undone of it; and a refusal is said once."""
     def after(state: State, before: Mapping[str, Any], config: Mapping[str, object], stopped: bool = False, **answers: Any) -> Tuple[List[object], List[str], Ledger, Any]:
         ledger = ledger_of(one("a", state, cpus=cpus("1-2"), **before))
-        ledger.problems[Topic.CONTAINER, "a"] = Problem(Kind.WAITS, "a", "a")
+        ledger.problems[Topic.ROOM, "a"] = Problem(Kind.WAITS, "a", "a")
         seen = dataclasses.replace(ledger.containers["a"].seen, stamp=("new",), config=config, stopped=stopped)
         commands, _ = done(changes.follow(Turn(ledger, Look(10.0)), "a", seen), answers)
         return [each.config for each in commands if isinstance(each, Tell)], said(commands), ledger, seen
@@ -546,6 +565,54 @@ def homes_stay() -> None:
         check(f"with the list {listed}", print_list(configs.nodes_named(wanted.config)) if wanted else None, expected)
 
 
+def updated_nodes(looks: Sequence[Tuple[str, Optional[str]]], answers: Mapping[str, Sequence[str]] = {}, wants: str = "") -> Tuple[List[str], Ledger]:
+    """What is said of nodes, or told with some, where one at home on node 1 has these nodes at each look, and its runtime's state names those; and what
+    is known then. It may have waited for room on other nodes before."""
+    held = one("a", State.PINNED, cpus=cpus("4-5"), nodes=cpus("1"), home=cpus("1"), **asking(2))
+    demand, wanted = (Demand(configs.housed(asks(2), cpus(text)), 2) if text else None for text in ("1", wants))
+    seen = dataclasses.replace(held.seen, config=asks(2))
+    kept = dataclasses.replace(seen, nodes=cpus(wants), named=cpus(wants)) if wants else seen
+    ledger, lines = ledger_of(dataclasses.replace(held, seen=kept, demand=demand, given=demand, wanted=wanted), members=FOUR), list[str]()
+    for has, stated in looks:
+        told = dataclasses.replace(seen.told, listed="" if stated is not None else None, nodes=stated)
+        now = Found(told, ("s",), asks(2), dataclasses.replace(seen.group, cpus=cpus("4-5"), nodes=cpus(has), populated=True))
+        commands, ledger = looked(ledger, {"sets": [f"cpus 4-5 effective 4-5 mems {has} effective {has}"], **answers}, told={"a": now}, groups=groups_of(now))
+        lines += [each.line for each in commands if isinstance(each, Say) and each.line.startswith(("drift", "keeps", "update", "home"))]
+        lines += [f"{each.verb.value} on {print_list(configs.nodes_named(each.config))}" for each in commands if isinstance(each, Tell) and not each.trial]
+    return lines, ledger
+
+
+@case
+def nodes_by_updates() -> None:
+    """One that has a home gets the nodes that an update by its runtime names, once the runtime's state has them, and its home is theirs no more; what is
+    written otherwise, or by a runtime whose state has no nodes, is undone. The runtime forgets them by its next update, and they stay."""
+    plan = {"rebalance": ["plan total 0", "hold a 4-5", "pool 0-3,6-15", "end"], "begin": ["plan total 0", "hold a 4-5", "pool 0-3,6-15", "end"]}
+    update, drift = ["update a /b", "update on 2"], ["drift a has nodes 2 in place of 1: that is written again", "adopt on 1"]
+    rows: Sequence[Tuple[str, Sequence[Tuple[str, Optional[str]]], Sequence[str]]] = (
+        ("at once", [("2", "2")], update), ("its state is later", [("2", ""), ("2", "2"), ("2", "2")], update), ("much later", [("2", ""), ("2", ""), ("1", "2")], ["adopt on 1", *update]),
+        ("forgotten then", [("2", "2"), ("2", ""), ("2", "")], update), ("by nobody whose state has nodes", [("2", None), ("2", None)], drift),
+        ("its home", [("1", "1"), ("1", "1")], []), ("none that the machine has", [("1", "9")], []),
+    )
+    for name, looks, expected in rows:
+        lines, ledger = updated_nodes(looks, plan)
+        check(name, lines, expected)
+        follows = update[1] in lines
+        held = ledger.containers["a"]
+        check(f"{name}: its nodes and its home", (held.followed, held.home), (cpus("2"), None) if follows else (None, cpus("1")))
+        check(f"{name}: left undone", ledger.problems, {} if lines != drift else ledger.problems)
+
+
+@case
+def nodes_without_room() -> None:
+    """Where there is no room by such nodes it has its home until there is, which is no drift, also once its runtime has forgotten them."""
+    lines, ledger = updated_nodes([("2", "2"), ("1", "2"), ("1", ""), ("1", "")], wants="2")
+    held = ledger.containers["a"]
+    check("it waits for them", (lines, held.wanted, held.home), (["adopt on 1"], Demand(configs.housed(asks(2), cpus("2")), 2), cpus("1")))
+    plan = ["plan total 0", "hold a 4-5", "pool 0-3,6-15", "end"]
+    lines, ledger = updated_nodes([("3", "2"), ("3", "2")], {"rebalance": plan, "begin": plan}, wants="2")
+    check("others' nodes, as of one whose config names some", (lines, ledger.containers["a"].followed), (["update a /b", "update on 3"], cpus("3")))
+
+
 @case
 def follows_at_its_time() -> None:
     ledger = ledger_of(one("a", State.PINNED, cpus=cpus("1-2"), **asking(2)))
@@ -554,7 +621,7 @@ def follows_at_its_time() -> None:
     ledger.pauses["update", ""] = Pause(11.0, 1.0)
     check("in a pause", (done(changes.follow(turn, "a", new))[1], ledger.containers["a"].wanted), (False, None))
     ledger.pauses.clear()
-    ledger.problems[Topic.CONTAINER, "a"] = Problem(Kind.KEEPS, "a", "a")
+    ledger.problems[Topic.ROOM, "a"] = Problem(Kind.KEEPS, "a", "a")
     ledger.change("a", **asking(3, 2, 4))
     done(changes.follow(turn, "a", dataclasses.replace(new, config=ledger.containers["a"].given.config)))
     check("what it is given settles what it wanted", (ledger.problems, ledger.containers["a"].wanted), ({}, None))
@@ -770,6 +837,20 @@ def lists_kept() -> None:
 
 
 @case
+def nodes_are_kept() -> None:
+    """Of whom its runtime gave other nodes, these are given back later; of others what was requested before, as where the runtime has forgotten them."""
+    for name, told, named, followed, inode, expected in (
+        ("an update's", "2", "2", None, 1, "2"), ("its config's again", "1", None, "1", 1, "1"), ("its config's", "1", None, None, 1, ""), ("forgotten", "", "2", "2", 1, ""),
+        ("a runtime without nodes", None, None, "2", 1, ""), ("of another group", "2", "2", None, 2, "")):
+        seen = dataclasses.replace(sighting(), told=Told("/b", "/f", nodes=told), named=cpus(named) if named else None)
+        ledger = ledger_of(one("a", State.PINNED, seen=seen, followed=cpus(followed) if followed else None), members=FOUR)
+        ledger.taken["/t/a"] = Taken(inode, "5", "", False)
+        turn = Turn(ledger, Look(0.0))
+        changes.keep_lists(turn)
+        check(name, (ledger.taken["/t/a"], turn.unsaved), (Taken(inode, "5", expected, False), bool(expected)))
+
+
+@case
 def nodes() -> None:
     """Nodes that are no limit which a container follows are written again."""
     ledger = ledger_of(members=FOUR)
@@ -870,18 +951,19 @@ def floor() -> None:
                                                            ("0-7", 2, 0, 8, 8, 8), ("0-7", 2, 2, 9, 1, 9), ("0-7", 2, 2, 8, 1, 4), ("0-7", 2, 2, 6, 4, 4), ("0-7", 5, 2, 3, 1, 1), ("0-3", 2, 2, 1, 1, None), ("0-7", 2, 2, 0, 1, 0)):
         ledger = ledger_of(one("p", State.PINNED, **asking(given)), one("w", State.WAITING, **least(wanted, takes, 0)), pool_least=keeps)
         ledger.running = cpus(running)
-        fits = room.fit_to_pool(ledger, ledger.containers["w"], ledger.containers["w"].demand)
+        fits = room.fit_to_pool(Turn(ledger, Look(10.0)), ledger.containers["w"], ledger.containers["w"].demand)
         check(f"{running} {given} {keeps} {wanted} {takes}", fits.count if fits else None, expected)
         check(f"{running} {given} {keeps} {wanted} {takes}: as it is", fits is ledger.containers["w"].demand, expected == wanted)
     ledger = ledger_of(one("p", State.PINNED, **asking(3)), one("q", State.ASKING, **asking(2)), one("w", State.WAITING, **asking(1, 0)), one("s", State.SHARED), pool_least=2)
-    check("left", (room.left_to_the_pool(ledger), room.pool_text(ledger, 2), room.pool_text(ledger, 9)),
-          (1, "it would leave 1 CPUs to the pool, and that keeps 2", "it would leave 0 CPUs to the pool, and that keeps 2"))
+    turn = Turn(ledger, Look(10.0))
+    check("left", (room.left_to_the_pool(turn), room.pool_text(turn, 2), room.pool_text(turn, 9)),
+          (1, "it would leave 1 CPU to the pool, and that keeps 2", "it would leave 0 CPUs to the pool, and that keeps 2"))
     pairs = ledger_of(one("p", State.PINNED, **asking(4)), one("w", State.WAITING, **least(8, 2, 0)), members=FOUR, pool_least=5)
-    fits = room.fit_to_pool(pairs, pairs.containers["w"], pairs.containers["w"].demand)
+    fits = room.fit_to_pool(Turn(pairs, Look(10.0)), pairs.containers["w"], pairs.containers["w"].demand)
     check("in whole cores", fits.count if fits else None, 6)
     held = one("p", State.PINNED, **asking(3))
-    ledger = ledger_of(held, pool_least=6)
-    check("what it has it may have", [fit.count if fit else None for fit in (room.fit_to_pool(ledger, held, Demand(asks(count), count)) for count in (2, 3, 4))], [2, 3, None])
+    turn = Turn(ledger_of(held, pool_least=6), Look(10.0))
+    check("what it has it may have", [fit.count if fit else None for fit in (room.fit_to_pool(turn, held, Demand(asks(count), count)) for count in (2, 3, 4))], [2, 3, None])
 
 
 @case
@@ -931,7 +1013,54 @@ def rooms() -> None:
         check(f"{answer[0]}", (told_of(commands), tried, [type(each) for each in commands if isinstance(each, (OpenTrial, CloseTrial))]), (told, expected, [OpenTrial, CloseTrial]))
     ledger = ledger_of(one("w", State.WAITING, **asking(2, 0)), pool_least=2)
     nothing = Demand({}, None)
-    check("one that asks for none by now", room.fit_to_pool(ledger, ledger.containers["w"], nothing) is nothing, True)
+    check("one that asks for none by now", room.fit_to_pool(Turn(ledger, Look(10.0)), ledger.containers["w"], nothing) is nothing, True)
+
+
+@case
+def rooms_later() -> None:
+    """What a trial can't be told for the moment is no refusal for good: who wants more goes on to want it, and is tried again behind a pause, which grows."""
+    memory, plan = ["refused E1 Memory"], ["plan total 0", "hold a 1-3", "pool 0,4-7", "end"]
+    lines = ["absent a: /b: numarun has not enough memory to be told of it"]
+    short = ["short demand 9 allowed 1-7", "member a", "end"]
+    rows: Sequence[Tuple[str, State, Mapping[str, Any], Sequence[Sequence[str]], Mapping[str, Sequence[str]], Sequence[str]]] = (
+        ("it waits", State.WAITING, asking(3, 0), [plan], {"create a": memory}, lines), ("it has some", State.PINNED, asking(2, wanted=3), [plan], {"update a": memory}, lines),
+        ("no plan with it", State.PINNED, asking(2, wanted=3), [plan, memory], {}, lines), ("nor with fewer", State.PINNED, least(6, 1, 2), [plan, short, memory], {}, lines),
+        ("no config", State.WAITING, asking(3, 0), [plan], {"create a": ["refused E111 NoBundle"]}, ["absent a: /b: can't be read"]),
+        ("no plan at all", State.PINNED, asking(2, wanted=3), [memory], {}, []), ("nobody is there", State.PINNED, asking(2, wanted=3), [plan], {"create a": memory}, []))
+    for name, state, demand, plans_of, more, expected in rows:
+        held = one("a", state, **demand)
+        ledger = ledger_of(dataclasses.replace(held, seen=dataclasses.replace(held.seen, config=held.demand.config)))
+        ledger.pauses["room", ""], outcomes, told = Pause(9.0, 1.0), iter(plans_of), list[Command]()
+        steps = room.make_room(Turn(ledger, Look(10.0)))
+        try:
+            command = next(steps)
+            while True:
+                told.append(command)
+                line = f"{command.verb.value} {command.name}" if isinstance(command, Tell) else ""
+                command = steps.send(Answer(tuple(more.get(line, next(outcomes, short) if isinstance(command, Ask) and command.line == "rebalance" else ["ok"]))))
+        except StopIteration as end:
+            now = ledger.containers["a"]
+            check(name, (said(told), (now.state, now.demand, now.wanted), ledger.untried, ledger.pauses["room", ""], end.value),
+                  (expected, (state, held.demand, held.wanted), True, Pause(12.0, 2.0), bool(expected)))
+            check(f"{name}: nothing is told in earnest", [each for each in told if isinstance(each, Tell) and not each.trial], [])
+
+
+@case
+def rooms_later_over_looks() -> None:
+    """Who waits and could not be tried is tried at a later look, and what was left undone is done then."""
+    held = one("w", State.WAITING, cpus=cpus("0-7"), **asking(2, 0))
+    held = dataclasses.replace(held, seen=dataclasses.replace(held.seen, config=held.demand.config))
+    ledger = ledger_of(held)
+    ledger.due, ledger.pool = True, cpus("0-7")
+    plan, told, states = {"begin direct": ["plan total 0", "pool 0-7", "end"], "rebalance": ["plan total 0", "pool 0-7", "end"]}, list[List[str]](), []
+    for now, memory in ((10.0, False), (10.5, True), (11.5, True)):
+        there = Found(held.seen.told, ("s",), held.demand.config, dataclasses.replace(held.seen.group, cpus=ledger.containers["w"].cpus or cpus(""), populated=True))
+        has = {"begin direct": ["plan total 20", "hold w 1-2", "pool 0,3-7", "end"], "sets": ["cpus 0 effective 0 mems 0 effective 0"]} if memory and now > 11 else {"create w": ["refused E1 Memory"]}
+        commands, ledger = looked(ledger, {**plan, **has}, told={"w": there}, groups=groups_of(there), now=now)
+        told.append(told_of([each for each in commands if isinstance(each, Tell) and not each.trial]))
+        states.append((ledger.containers["w"].state, [problem.line for problem in ledger.problems.values()], ledger.untried))
+    waits = (State.WAITING, ["absent w: /b: numarun has not enough memory to be told of it"], True)
+    check("once there is memory", (told, states, ("room", "") in ledger.pauses), ([[], [], ["update w -"]], [waits, waits, (State.PINNED, [], False)], False))
 
 
 @case
@@ -961,7 +1090,7 @@ def rooms_said() -> None:
         check(f"{name}: what it asks for by then", now.demand, now.given if refused and not held.wanted else held.demand)
         check(f"{name}: what it is by then", now.state, State.SHARED if refused and state is State.WAITING else state)
     ledger = ledger_of(one("a", State.PINNED, cpus=cpus("1-2"), **asking(2, wanted=3)))
-    ledger.problems[Topic.CONTAINER, "a"] = Problem(Kind.KEEPS, "a", "a")
+    ledger.problems[Topic.ROOM, "a"] = Problem(Kind.KEEPS, "a", "a")
     commands, _ = done(room.try_one(room.Trial(Turn(ledger, Look(10.0)), {"a"}), ledger.containers["a"]), {"rebalance": ["plan total 0", "hold a 1-3", "pool 0,4-7", "end"]})
     now = ledger.containers["a"]
     check("there is room", (said(commands), now.demand.count, now.given.count, now.wanted, ledger.due, ledger.problems), (["update a /b"], 3, 3, None, True, {}))
@@ -1016,7 +1145,7 @@ def given_more() -> None:
                                         ("refused E50 KernelFault", None, State.WAITING, ["failed refused E50 KernelFault"])):
         held = one("a", State.WAITING, cpus=cpus("0-15"), **asking(2, 0, 3))
         ledger, is_done = ledger_of(dataclasses.replace(held, seen=dataclasses.replace(held.seen, nodes=nodes)), members=FOUR), state is State.PINNED
-        ledger.problems[Topic.CONTAINER, "a"] = Problem(Kind.WAITS, "a", "a")
+        ledger.problems[Topic.ROOM, "a"] = Problem(Kind.WAITS, "a", "a")
         commands, _ = done(room.give(Turn(ledger, Look(10.0)), ledger.containers["a"], wanted, wanted), {"update": [answer]})
         now = ledger.containers["a"]
         check(f"{answer} {nodes}", (said(commands), now.state, ledger.due, not ledger.problems), (lines, state, is_done, is_done))
@@ -1104,9 +1233,34 @@ def spared() -> None:
 @case
 def said_of_fewer() -> None:
     ledger = ledger_of(one("a", State.PINNED, **asking(3, 2)), one("b", State.PINNED, **asking(2)), one("c", State.PINNED, **asking(3, 2, 4)), one("w", State.WAITING, **asking(3, 0)))
-    ledger.problems[Topic.CONTAINER, "b"] = Problem(Kind.FEWER, "b", "b")
+    ledger.problems[Topic.ROOM, "b"] = Problem(Kind.FEWER, "b", "b")
     commands, _ = done(room.say_fewer(Turn(ledger, Look(0.0))))
     check("said", (said(commands), sorted(of for _, of in ledger.problems)), (["fewer a: 2 of 3 CPUs, as there are no more"], ["a"]))
+
+
+@case
+def left_beside_each_other() -> None:
+    """That there is no room, that what one wants is refused, and that it can't be told of are left beside each other, and each is said once."""
+    ledger = ledger_of(one("a", State.PINNED, cpus=cpus("1"), **asking(2, 1)), one("w", State.WAITING, **asking(2, 0)))
+    turn, before, refusal = Turn(ledger, Look(10.0)), ledger.containers["a"].seen, {"update": ["refused E66 QuotaTooLarge"]}
+
+    def left() -> List[str]:
+        return sorted(f"{of} {problem.kind.value}" for (_, of), problem in ledger.problems.items())
+
+    check("few", said([*done(room.say_fewer(turn))[0], *done(room.say_waits(turn, "w", "x"))[0]]),
+          ["fewer a: 1 of 2 CPUs, as there are no more", "waits w: x: it runs on the pool until there is room"])
+    for count in (9, 10):
+        done(changes.follow(turn, "a", dataclasses.replace(before, stamp=(count,), config=asks(count))))
+        check(f"few, and wants {count}", (said(done(room.say_fewer(turn))[0]), "a fewer" in left()), ([], True))
+        commands, _ = done(room.try_one(room.Trial(turn, {"a"}), ledger.containers["a"]), refusal)
+        check(f"refused {count}", said(commands), ["refused E66 QuotaTooLarge: a /b: it stays as it was"] if count == 9 else [])
+    check("few, and refused", (said(done(room.say_fewer(turn))[0]), left()), ([], ["a fewer", "a refused", "w waits"]))
+    done(telling.tell_update(turn, "w", configs.shared({})), {"update": ["refused E50 KernelFault"]})
+    check("it can't be told of", left(), ["a fewer", "a refused", "w failed", "w waits"])
+    commands, _ = done(telling.tell_update(turn, "w", configs.shared({}), quiet=True))
+    check("it is told of", (said([*commands, *done(room.say_waits(turn, "w", "y"))[0]]), left()), ([], ["a fewer", "a refused", "w waits"]))
+    done(changes.follow(turn, "a", dataclasses.replace(before, stamp=("old",), config=ledger.containers["a"].demand.config)))
+    check("it asks for no more than before", (said(done(room.say_fewer(turn))[0]), left()), ([], ["a fewer", "w waits"]))
 
 
 # Plans.
@@ -1121,16 +1275,36 @@ def counted() -> None:
     plans.count_plan(ledger, outcome, 1)
     plans.count_plan(ledger, outcome, 2)
     check("figures", [ledger.counts[name] for name in ("plans_total", "moves_total", "distance", "distance_beyond_local")], [2, 3, 52, 22])
-    reply = ["plan total 41", "hold a 1-2", "hold b 4", "pool 0,3", "end"]
-    found_here = room.outcome_of(plans_reply(reply))
+    found_here = outcome_of(ledger, "plan total 41", "hold a 1-2", "hold b 4", "pool 0,3", "end")
     check("a plan", (found_here.total, found_here.holds, found_here.pool, found_here.shortage), (41, {"a": cpus("1-2"), "b": cpus("4")}, cpus("0,3"), None))
-    short = room.outcome_of(plans_reply(["short demand 4 allowed 1-3", "member a", "member b", "end"])).shortage
+    ledger.titles = {"b": "web(b)"}
+    found_here = outcome_of(ledger, "short demand 4 allowed 1-3", "member a", "member b", "end")
+    short = found_here.shortage
     check("a shortage", short and (short.demand, short.allowed, short.members, short.missing), (4, cpus("1-3"), ("a", "b"), 1))
-    check("a refusal", room.outcome_of(plans_reply(["refused E90 Busy"])), Outcome("refused E90 Busy"))
+    check("its members as the log has them", found_here.text, "short demand 4 allowed 1-3 member a member web(b)")
+    check("a refusal", outcome_of(ledger, "refused E90 Busy"), Outcome("refused E90 Busy"))
 
 
-def plans_reply(lines: Sequence[str]) -> Reply:
-    return Reply(tuple(lines))
+def outcome_of(ledger: Ledger, *lines: str) -> Outcome:
+    return room.outcome_of(ledger, Reply(lines))
+
+
+@case
+def noted() -> None:
+    """What numarun says of a group's file names the container as the log does."""
+    ledger = ledger_of()
+    ledger.titles = {"b": "web(b)"}
+    for note, said_of_it in (("b/cpuset.cpus: Permission denied", "web(b)/cpuset.cpus: Permission denied"), ("a/cpuset.cpus: x", "a/cpuset.cpus: x"),
+                             ("/t/b/cpuset.cpus: x", "/t/b/cpuset.cpus: x"), ("b", "web(b)"), ("", "")):
+        check(note, telling.titled(ledger, note), said_of_it)
+    for answer, line in ((Answer(("refused E50 KernelFault",), ("a/x: y", "b/cpuset.cpus: z")), "web(b)/cpuset.cpus: z"), (Answer(("ok",), ("b/x: y",)), "ok")):
+        steps, commands = telling.ask(ledger, Ask("step")), []
+        next(steps)
+        try:
+            commands.append(steps.send(answer))
+            next(steps)
+        except StopIteration as end:
+            check(f"why: {line}", (end.value.note, said(commands)), (line, []) if line != "ok" else ("web(b)/x: y", ["note web(b)/x: y"]))
 
 
 @case
@@ -1174,9 +1348,45 @@ def no_plan() -> None:
         check(f"{name}: pauses", ledger.pauses["plan", ""], Pause(12.0, 2.0))
     for ending, expected_state, count in ((False, State.WAITING, 0), (True, State.ASKING, 1)):
         ledger, begins = ledger_of(one("a", State.ASKING, **asking(9))), iter([short, ["plan total 0", "pool 0-7", "end"]])
-        ledger.ending = ending
-        outcome_of_plan(ledger, lambda line: next(begins) if line == "begin direct" else ["done"] if line == "step" else ["ok"])
+        lines = outcome_of_plan(ledger, lambda line: ends_meanwhile(ledger, ending, next(begins)) if line == "begin direct" else ["done"] if line == "step" else ["ok"])
         check(f"one can wait, and it ends: {ending}", (ledger.containers["a"].state, ledger.counts["shortages_total"], ledger.due), (expected_state, count, False))
+        check(f"no fault of a unit that is stopped: {ending}", (is_undone(ledger, ending), [line for line in lines if line.startswith("short")]), (not ending, []))
+    ledger = ledger_of(one("a", State.ASKING, **asking(9)))
+    check("what is refused is said at the end too", outcome_of_plan(ledger, lambda line: ends_meanwhile(ledger, True, ["refused E1 Memory"])), ["refused E1 Memory"])
+
+
+def ends_meanwhile(ledger: Ledger, ending: bool, answer: Sequence[str]) -> Sequence[str]:
+    """The answer to a line at which the agent is told to end, if it is."""
+    ledger.ending = ledger.ending or ending
+    return answer
+
+
+@case
+def no_plan_at_the_end() -> None:
+    """Once the agent is told to end no plan is begun, not even behind one that was handed over or somebody who is to wait; it is due, and that is no fault."""
+    short, plan = ["short demand 9 allowed 1-7", "member a", "end"], ["plan total 10", "hold a 1", "pool 0,2-7", "end"]
+    for name, line_of_end, answers, begun, due in (
+        ("before the plan", "update", [short, plan], ["begin direct"], True), ("in the midst of a hand-over", "step", [plan, plan], ["begin direct", "step"], False)):
+        ledger, begins = ledger_of(one("a", State.ASKING, **asking(1)), one("w", State.WAITING, **asking(9, 0)), pool_least=0), iter(answers)
+        ledger.due = True
+        asked: List[str] = []
+        steps = plans.arrange(Turn(ledger, Look(10.0)))
+        try:
+            command = next(steps)
+            while True:
+                line = command.line if isinstance(command, Ask) and not command.trial else command.verb.value if isinstance(command, Tell) and not command.trial else ""
+                asked += [line] if line in ("begin direct", "step") else []
+                reply = next(begins) if line == "begin direct" else ["done"] if line == "step" else ["short demand 9 allowed 1-7", "member w", "end"] if line == "" else ["ok"]
+                command = steps.send(Answer(tuple(reply), ending=line == line_of_end))
+        except StopIteration:
+            check(name, (asked, ledger.due, is_undone(ledger, True)), (begun, due, False))
+    ledger = ledger_of(one("a", State.ASKING, **asking(1)))
+    ledger.due = ledger.ending = True
+    check("before all", (lines_of(done(plans.arrange(Turn(ledger, Look(10.0))))[0]), ledger.due), ([], True))
+
+
+def lines_of(commands: Sequence[Command]) -> List[str]:
+    return [command.line for command in commands if isinstance(command, Ask) and not command.trial]
 
 
 @case
@@ -1211,8 +1421,35 @@ def certificates() -> None:
 
 
 @case
+def why_one_waits() -> None:
+    """Of each shortage the certificate is kept, also of one by which somebody waits, which has its file as long as it waits for that."""
+    short, plan = ["short demand 9 allowed 1-7", "member a", "end"], ["plan total 0", "pool 0-7", "end"]
+    for certificate, file in ((["numarun-certificate 2", "end"], "ok"), (["refused E101 NoAnswer"], "")):
+        ledger, begins = ledger_of(one("a", State.ASKING, **asking(9)), one("b", State.PINNED, **asking(1)), certificates="/c"), iter([short, plan])
+        answers = {"step": ["done"], "certificate": certificate}
+        commands, _ = answered(plans.plan(Turn(ledger, Look(10.0))), lambda line: next(begins) if line == "begin direct" else answers.get(line, ["ok"]))
+        check(f"{certificate[0]}: of both", len([each for each in commands if isinstance(each, KeepCertificate)]), 2 if file else 0)
+        check(f"{certificate[0]}: its file", {name: (held.state, held.certificate) for name, held in ledger.containers.items()}, {"a": (State.WAITING, file), "b": (State.PINNED, "")})
+    ledger.change("a", certificate="/c/1")
+    turn = Turn(ledger, Look(10.0))
+    done(room.give(turn, ledger.containers["a"], asking(2)["demand"], asking(2)["demand"]))
+    check("not once it has CPUs", ledger.containers["a"].certificate, "")
+    ledger.change("a", certificate="/c/1")
+    done(room.make_wait(turn, "a", "it would leave 1 CPU to the pool, and that keeps 2"))
+    check("nor where it waits for another cause", (ledger.containers["a"].state, ledger.containers["a"].certificate), (State.WAITING, ""))
+    ledger.change("a", certificate="/c/1")
+    done(changes.follow_shared(turn, ledger.containers["a"], asking(3)["demand"]))
+    check("or for others", (ledger.containers["a"].state, ledger.containers["a"].certificate), (State.WAITING, ""))
+    for before, after in (("", "ok"), ("/c/1", "/c/1")):
+        ledger.change("a", certificate=before)
+        trial = room.Trial(turn)
+        answered(room.try_one(trial, ledger.containers["a"]), lambda line: short if line == "rebalance" else ["ok"])
+        check(f"one that waits since another run: {before}", ledger.containers["a"].certificate, after)
+
+
+@case
 def steps() -> None:
-    """Each write of a plan is a step, until all are done, one fails, or the agent is to end. Then those that get CPUs have them, and those that are never
+    """Each write of a plan is a step, until all are done, one fails, or the agent is to end at once; one that is told to end does them all. Then those that get CPUs have them, and those that are never
     moved ask for just these."""
     stay = {"numarun.stay": "true"}
     several = [one("a", State.ASKING, **asking(1)), one("k", State.KEPT, **asking(1)), one("n", State.ASKING, **asking(1)), one("s", State.SHARED),
@@ -1237,10 +1474,32 @@ def steps() -> None:
     check("who is never moved", (told, [each for each in commands if isinstance(each, RunPool)]), ([(Verb.UPDATE, "t", "4-5")], []))
     commands, made = answered(plans.hand_over(Turn(ledger, Look(10.0)), outcome), lambda line: ["done"])
     check("is told so once", told_of(commands), [])
+    for unmade in (False, True):
+        problems = {(Topic.CONTAINER, "a"): Problem(Kind.UNTOLD, "a", "a"), (Topic.CONTAINER, "w"): Problem(Kind.FAILED, "w", "w"), (Topic.DEMAND, "k"): Problem(Kind.REFUSED, "k", "k")}
+        after = over("done", unmade=unmade, problems=problems)[2]
+        check(f"what was to be told on the way, and is still: {unmade}", [name for _, name in after.problems], ["a", "w", "k"] if unmade else ["k"])
     _, made, ledger = over("more", "refused E50 KernelFault")
-    check("a write that fails", (made, ledger.counts["steps_total"], ledger.containers["a"].state), (False, 2, State.ASKING))
-    commands, made, ledger = over(ending=True, due=True)
-    check("it ends", (made, commands, ledger.due), (False, [], True))
+    check("a write that fails", (made, ledger.counts["steps_total"], ledger.containers["a"].state), (False, 1, State.ASKING))
+    commands, made, ledger = over("more", "done", ending=True, due=True)
+    check("it ends", (made, lines_of(commands), said(commands), told_of(commands), ledger.due, ledger.pool), (True, ["step", "step"], ["done"], [], False, cpus("0,6-7")))
+    _, made, ledger = over("more", "refused E50 KernelFault", ending=True, due=True)
+    check("it ends, and a write fails", (made, ledger.due, is_undone(ledger, True)), (False, True, True))
+    commands, made, ledger = over(ending=True, ends_at_once=True, due=True)
+    check("it ends at once", (made, commands, ledger.due), (False, [], True))
+
+
+@case
+def counted_writes() -> None:
+    """The writes that were made are counted: `done` answers the last one, or a step where none was due."""
+    outcome = Outcome("plan total 0", 0, {"a": cpus("1"), "k": cpus("2")}, cpus("0,3-7"))
+    rows: Sequence[Tuple[str, Mapping[str, str], Sequence[str], int]] = (
+        ("no write is due", {}, ["done"], 0), ("one is", {"k": "3"}, ["done"], 1), ("one on the pool", {"p": "0"}, ["done"], 1), ("two are", {"a": "0", "k": "0"}, ["more", "done"], 2),
+        ("some that nobody knew of", {}, ["more", "done"], 2), ("one, which is refused", {"a": "0"}, ["refused E50 KernelFault"], 0))
+    for name, others, lines, count in rows:
+        has, answers = {"a": "1", "k": "2", "p": "0,3-7", **others}, iter(lines)
+        ledger = ledger_of(*(one(held, State.SHARED if held == "p" else State.PINNED, cpus=cpus(has[held])) for held in has))
+        answered(plans.hand_over(Turn(ledger, Look(10.0)), outcome), lambda line: [next(answers)] if line == "step" else ["ok"])
+        check(name, ledger.counts["steps_total"], count)
 
 
 @case
@@ -1320,7 +1579,7 @@ def odd_on_the_cpus_of_another() -> None:
 @case
 def room_behind_a_plan() -> None:
     """Where somebody is to wait behind all, those who wait already may have room, at the same look."""
-    for least, asked, why in ((0, 6, "short demand 8 allowed 1-7"), (2, 5, "it would leave 1 CPUs to the pool, and that keeps 2")):
+    for least, asked, why in ((0, 6, "short demand 8 allowed 1-7"), (2, 5, "it would leave 1 CPU to the pool, and that keeps 2")):
         scene = Scene(least)
         scene.come(p=2, q=4)
         scene.look()

@@ -31,7 +31,7 @@ def in_a_look() -> None:
 
 @case
 def in_a_look_with_more() -> None:
-    """It is told to end while it has not told of all newcomers: that is left undone, and the next one does it."""
+    """It is told to end while it has not told of all newcomers: no fault of its own, which its last line says, and the next one tells of them."""
     site = Site({"nodes": ["0-127"], "distances": [[10]], "reserved": "0"})
     site.come("first", 1)
     agent = Open(site)
@@ -42,7 +42,9 @@ def in_a_look_with_more() -> None:
     agent.process.send_signal(signal.SIGCONT)
     agent.until("create c")
     status, lines = agent.end()
-    check("some were not told of", (status, of(lines, "done"), len(of(agent.lines + lines, "create c")) < 300), (1, [], True))
+    told_of = of(agent.lines + lines, "create c")
+    check("some were not told of", (status, of(lines, "done"), len(told_of) < 300), (0, [], True))
+    check("which is said", lines[-1:], ["note a plan is due: the next agent begins with it"])
     check("the next one", (site.run()[0], len(site.has("c000")[0]) > 0, "" in site.has(*(f"c{k:03}" for k in range(300)))), (0, True, False))
 
 

@@ -110,6 +110,34 @@ def certified() -> None:
 
 
 @case
+def why_it_waits() -> None:
+    """Of who waits since a shortage the certificate is named that proves it, also before there is a plan, and as long as it waits."""
+    site = Site()
+    agent = full(site, "--certificates", site.at("kept"))
+    site.come("more", 6)
+    agent.until("waits more")
+    agent.until("done")
+    out = asked(site)[1]
+    found = re.search(rf"^more +waiting .*, certificate ({site.at('kept')}/\S+\.certificate)$", out, re.M)
+    members = [line for line in text_of(found[1]).splitlines() if line.startswith("short ")] if found else []
+    check("its file", members, ["short a", "short more"])
+    containers = known(site)["containers"]
+    check("as JSON", isinstance(containers, list) and [entry["certificate"] for entry in containers if entry["id"] in ("a", "more")], ["", found and found[1]])
+    site.go("big")
+    site.go("a")
+    agent.until("update more")
+    agent.until("done")
+    wait_for(site, lambda text: "short demand" not in text)
+    left = {line.split()[0]: line for line in asked(site)[1].splitlines() if line.split()}
+    check("once it has its CPUs", ("certificate" in left["more"], agent.end()[0]), (False, 0))
+    site.come("big", 7)
+    site.run("--certificates", site.at("kept"))
+    site.run("--certificates", site.at("kept"))
+    left = {line.split()[0]: line for line in asked(site)[1].splitlines() if line.split()}
+    check("that waits since another run", bool(re.search(rf", certificate {site.at('kept')}/\S+\.certificate$", left["big"])), True)
+
+
+@case
 def lifted() -> None:
     """Whose limit is lifted, and which that was."""
     site = Site()
@@ -126,11 +154,14 @@ def none_left() -> None:
     site = Site()
     refuses("numarun-agent", "status", "--agent", site.at("work/hooks"), says=f"{site.at('work/hooks')}: no agent answers: No such file or directory")
     os.makedirs(site.at("work"))
-    for text in (b"", b"{", b"[]", b"\xff", b'{"containers": 5, "undone": {}, "plan": 7}', b"9" * 5000):
+    deep = b'{"containers": [{"why": ' + b"[" * 900 + b"]" * 900 + b"}]}"
+    for text in (b"", b"{", b"[]", b"\xff", b'{"containers": 5, "undone": {}, "plan": 7}', b"9" * 5000, b'{"containers": [{"why": []}], "undone": []}',
+                 b'{"containers": [], "undone": [{"line": {}}]}', b'{"containers": [{"why": "x"}], "undone": [{"line": "x"}, {"line": 7}], "plan": {}}', deep):
         with open(site.at("work/status.json"), "wb") as file:
             file.write(text)
-        status, out, err = asked(site)
-        check(f"{text[:50]!r}", (status, err.count("\n"), "Traceback" in err), (1, 1, False))
+        for words in ((), ("--json",)):
+            status, out, err = asked(site, *words)
+            check(f"{text[:50]!r} {words}", (status, err.count("\n") in (1, 2), "Traceback" in err), (1, True, False))
     os.remove(site.at("work/status.json"))
     os.mkdir(site.at("work/status.json"))
     refuses("numarun-agent", "status", "--agent", site.at("work/hooks"), says="no agent answers")

@@ -149,7 +149,7 @@ def transcripts(texts: dict[pathlib.Path, str]) -> Iterator[str]:
 def version(text: str) -> Iterator[str]:
     """That the newest release of the changelog has the version that the program prints."""
     release = re.search(r"^## \[([0-9.]+)\]", text, re.MULTILINE)
-    source = (TOP / "crates/cli/src/command_line.rt").read_text(encoding="utf-8")
+    source = (TOP / "crates/command_line/src/command_line.rt").read_text(encoding="utf-8")
     printed = re.search(r'^const VERSION: &str = "([0-9.]+)";', source, re.MULTILINE)
     if not release or not printed or release[1] != printed[1]:
         yield "the newest release is not the version that the program prints"

@@ -35,14 +35,15 @@ CLAUSES = [
     ("rebalance_broken", "node", "planning.rt", "rebalance", "broken"),
     ("each_rebalance", "node", "laws.rt", "each_rebalance", ""),
     ("scripts_serve_configs", "runtime", "laws.rt", "scripts_serve_configs", ""),
-    ("run_mirrored", "runtime", "mirrored.rt", "run_mirrored", "mirrored"),
+    ("run_mirrored", "strangers", "mirrored.rt", "run_mirrored", "mirrored"),
     ("boot_mirrored", "runtime", "booting.rt", "boot_mirrored", "site boots mirrored"),
     ("scripts_are_told", "runtime", "laws.rt", "scripts_are_told", "lines first"),
+    ("plans_keep_off", "strangers", "laws.rt", "plans_keep_off", "plans requests stay"),
     ("do_run_mirrored", "cli", "mirroring.rt", "do_run_mirrored", ""),
     ("partitions", "runtime", "laws.rt", "partitions", ""),
 ]
 # Of these only the pages are listed.
-LONG = {"each_rebalance", "scripts_serve_configs", "scripts_are_told", "do_run_mirrored"}
+LONG = {"each_rebalance", "scripts_serve_configs", "scripts_are_told", "plans_keep_off", "do_run_mirrored"}
 
 
 def imports(lines):
@@ -317,6 +318,7 @@ SAYS = {
     "run_mirrored": "`run --cgroup`: what the tree's files are asked for, and what they then have",
     "boot_mirrored": "that it begins so, at this root and on this machine",
     "scripts_are_told": "which writing calls of the kernel the lines of a script stand for",
+    "plans_keep_off": "`--adopt`: no plan gives a CPU that a folder of a run before holds to anybody",
     "do_run_mirrored": "what `run --cgroup` does up to the end of its script, by its arguments, files and streams",
     "partitions": "`--partition`: no group outside has a container's CPU in effect, if the kernel's rule holds",
 }

@@ -25,11 +25,11 @@ NO_SETS = ["x", "5-3", "4096", ",", "1,,2", "1-", "0,4095", "4095", "2-1,x"]
 SIGNALS = ["KILL", "SIGKILL", "9", "TERM", "SIGTERM", "15", "HUP", "kill", "0", "09"]
 NUMBERS = ["0", "007", "+5", "-1", "1.0", "4294967295", "4294967296", "99999999999999999999", "0x2", "", "1e1"]
 NO_LINES = [b"foo", b"LIST", b"list a", b"create a", b"create a ba bb", b"fork", b"fork 2 3", b"kill a", b"\xff", b"list \xff",
-            b"start \xc3", b"adopt a b0", b"adopt a b0 1 2", b"adopt a b0 \xff", b"update a", b"update a b0 b1", b"create a \xff", b"phase\0", b"rebalance now", b"rebalance direct direct", b"begin direct direct", b"Begin direct", b"begin Direct", b"step direct", b"rebalance dir", b"x" * 8192, b"x" * 8193, b"list " + b"x" * 8200]
+            b"start \xc3", b"adopt a b0", b"adopt a b0 1 2", b"adopt a b0 \xff", b"forget", b"forget a b0", b"forget \xff", b"update a", b"update a b0 b1", b"create a \xff", b"phase\0", b"rebalance now", b"rebalance direct direct", b"begin direct direct", b"Begin direct", b"begin Direct", b"step direct", b"rebalance dir", b"x" * 8192, b"x" * 8193, b"list " + b"x" * 8200]
 BLANKS = [b"", b" ", b"\t", b"\r", b" \t \r"]
 NAMES = ["no", "../no", "./b0", "b0/", "b0/../b1", "/no/b0", ".", "..", "y" * 8000, "é", "-"]
 ANSWERS = ["pid", "ok", "{", "end", "cpus", "settled"] + ["refused E%d" % number for number in [
-    46, 51, 52, 55, 56, 57, 58, 59, 60, 62, 63, 64, 65, 66, 67, 91, 92, 93, 94, 95, 96, 97, 98, 99, 102, 103, 104, 110, 111, 112]]
+    46, 51, 52, 55, 56, 57, 58, 59, 60, 62, 63, 64, 65, 66, 67, 91, 92, 93, 94, 95, 96, 97, 98, 99, 102, 103, 104, 105, 110, 111, 112]]
 PLAN_ANSWERS = ["plan", "short", "underway", "more", "done", "numarun-certificate", "refused E90", "refused E100", "refused E101"]
 NO_CONFIGS = [b"", b"[]", b"7", b"{", b"{}x", b'{"ociVersion":"1.0.2"}', b'{"ociVersion":"1.0.2","root":{}}', b"\xff",
               b'{"ociVersion":7}', b'{"ociVersion":"v1.0.0","root":{"path":"r"}}', b'{"root":{"path":"r"}}',
@@ -109,7 +109,7 @@ def made_line(cpus, commands):
         words += [name, f"b{random.randint(0, 7)}", random.choice(NO_SETS) if random.random() < 0.2 else print_list(some(cpus, least=1))]
     elif command == "kill":
         words += [name, random.choice(SIGNALS)]
-    elif command in ("start", "delete", "state", "sets"):
+    elif command in ("start", "delete", "forget", "state", "sets"):
         words += [name]
     elif command in ("fork", "exit"):
         words += [number or str(random.randint(1, 25))]
@@ -121,7 +121,7 @@ def made_line(cpus, commands):
 
 def made_script(cpus):
     often = ["create"] * 5 + ["adopt"] * 4 + ["update"] * 3 + ["start", "kill", "delete", "fork", "fork", "exit", "offline", "online"] * 2
-    asked = ["state", "list", "sets", "sets", "phase"]
+    asked = ["state", "list", "sets", "sets", "phase", "forget"]
     planned = ["rebalance"] * 3 + ["begin"] * 3 + ["rebalance direct"] * 3 + ["begin direct"] * 3 + ["step"] * 8 + ["certificate"] * 2
     return [made_line(cpus, often + asked + planned) for _ in range(random.randint(1, 90))]
 

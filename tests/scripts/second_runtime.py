@@ -355,15 +355,19 @@ def text(word):
 class Runtime:
     COMMANDS = {
         b"create": (text, text), b"adopt": (text, text, text), b"update": (text, text), b"start": (text,), b"kill": (text, text), b"delete": (text,), b"state": (text,),
+        b"forget": (text,),
         b"list": (), b"sets": (text,), b"rebalance": (), b"begin": (), b"step": (), b"phase": (), b"certificate": (),
         b"fork": (digits,), b"exit": (digits,), b"offline": (digits,), b"online": (digits,),
     }
     # Those that take a word that says how.
     WORDS = {(b"rebalance", b"direct"): "do_rebalance_directly", (b"begin", b"direct"): "do_begin_directly"}
 
-    def __init__(self, machine, config_of):
-        """`config_of` gives the bytes of a bundle's config, or nothing."""
-        self.machine, self.config_of = machine, config_of
+    # Those for which the CPUs of strangers are not there.
+    AROUND = (b"rebalance", b"begin", b"step")
+
+    def __init__(self, machine, config_of, strangers=()):
+        """`config_of` gives the bytes of a bundle's config, or nothing. `strangers` are the folders of a run before, with their CPUs."""
+        self.machine, self.config_of, self.strangers = machine, config_of, dict(strangers)
         self.running_cpus = machine.online
         self.containers = {}
         self.processes = {}
@@ -383,6 +387,22 @@ class Runtime:
             words = [word for word in re.split(rb"[ \t\r]", line) if word]
             if not words:
                 return []
+            return self.answer_without(words) if words[0] in self.AROUND else self.answer_words(words)
+        except Refused as why:
+            return [str(why)]
+
+    def answer_without(self, words):
+        """The same while the CPUs of strangers are not there."""
+        away = frozenset().union(*self.strangers.values()) & self.running_cpus - self.machine.reserved
+        self.running_cpus -= away
+        try:
+            return self.answer_words(words)
+        finally:
+            self.running_cpus |= away
+
+    def answer_words(self, words):
+        """The same of words."""
+        try:
             if tuple(words) in self.WORDS:
                 return getattr(self, self.WORDS[tuple(words)])()
             kinds = self.COMMANDS.get(words[0])
@@ -392,6 +412,14 @@ class Runtime:
             return getattr(self, "do_" + words[0].decode())(*arguments)
         except Refused as why:
             return [str(why)]
+        finally:
+            self.strangers = {name: cpus for name, cpus in self.strangers.items() if name not in self.containers}
+
+    def do_forget(self, name):
+        if name not in self.strangers:
+            raise Refused("E105", "NoStranger")
+        del self.strangers[name]
+        return ["ok"]
 
     # Containers.
 

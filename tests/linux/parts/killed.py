@@ -41,6 +41,7 @@ def take_up(scene, last=False):
         if os.path.isdir(f"{TOP}/{name}") and name not in scene.wanted:
             tree.remove(f"{TOP}/{name}")
             scene.all.there.pop(name, None)
+            scene.run.ok(f"forget {name}")
     before = requested(scene)
     for name in scene.wanted:
         bundle = f"{scene.all.folder}/{name}"
@@ -97,7 +98,7 @@ for call in itertools.count(1):
             plan = scene.run.plan()
             assert requested(scene) == before, f"nothing happened, and {before} became {requested(scene)}"
             scene.all.check_plan(plan, "taken up once more")
-        assert not [line for line in scene.run.said() if not line.endswith("is there and has to be adopted")]
+        assert not [line for line in scene.run.said() if "is there and has to be adopted" not in line]
         scene.run.close()
     count["killed"] += was_killed
     count["states"] += scene.states

@@ -1,48 +1,24 @@
 """A cpuset partition on a real kernel: the program at a root that is one, is none, or stops being one; and the agent, which makes one, is
-beside writes of others that break it or don't, heals it, lets it grow and shrink, is killed at moments by chance and behind each of its
-writes, and gives it back. At each look each container has CPUs and no two share one, and while the file says `root` nobody outside may
-run where a container may."""
+beside writes of others that break it or don't, heals it, names who may run there all the same, lets it grow and shrink, is killed at moments by
+chance, and gives it back. What has to be so at each look is that of the scene."""
 
-import contextlib
 import errno
-import itertools
-import json
 import os
 import signal
 import subprocess
 import sys
 import time
+from typing import NamedTuple, Tuple
 
 sys.path[:0] = [os.path.join(os.path.dirname(os.path.abspath(__file__)), "..")]
 import tree
 import watched
-from tree import ROOT, cpus, read, say, write
+from partition_scene import MACHINE, NAME, SLICE, SYSTEM, Scene, is_new, layouts, told, write_machine
+from tree import ROOT, read, say, write
 
-NAME, SYSTEM, CPUS = "pinned", {0}, set(range(1, 8))
 PINNED = f"{ROOT}/{NAME}"
 FILE = f"{PINNED}/cpuset.cpus.partition"
-MACHINE = "/tmp/partition.json"
-SLICE = f"{ROOT}/system.slice/cpuset.cpus"
 KILLS = 6
-looks = 0
-
-
-def write_machine(nodes=("1", "2-3", "4-5", "6-7"), reserved="1"):
-    described = json.loads(read(tree.MACHINE))
-    described.update(nodes=list(nodes), reserved=reserved)
-    with open(MACHINE, "w") as file:
-        json.dump(described, file)
-
-
-def is_new():
-    """Whether the kernel has cpuset.cpus.exclusive, as since 6.7."""
-    return os.path.exists(f"{ROOT}/system.slice/cpuset.cpus.exclusive")
-
-
-def told(path, text, answer=0):
-    """A write whose answer is known. What a group with a process requests can't be empty again, so the system's CPU is what is taken back to."""
-    found = write(path, text)
-    assert found == answer, (path, text, errno.errorcode.get(found, found))
 
 
 def make(path, text="root", asked="1-7"):
@@ -95,169 +71,195 @@ def of_the_program():
     tree.TOP, tree.RESERVED = before
 
 
-# The agent.
+# Writes of others.
 
 
-class Scene:
-    """Containers in the partition and one outside of it, processes in the root group and in a slice, and an agent."""
+class Kind(NamedTuple):
+    """Writes of others, in turn: each a path below the root, a text, and the number by which it is refused, if it is. Those that take it back, behind
+    which the groups go that came with it; and whether that breaks a partition right below the root, and one two deep."""
 
-    def __init__(self, group):
-        self.group, self.path, self.file = group, f"{ROOT}/{group}", f"{ROOT}/{group}/cpuset.cpus.partition"
-        self.outside = [tree.spawn(ROOT), watched.group("system.slice/s1")]
-        self.inside, self.asks = {}, {"db": 2, "net": 1, "web": 0}
-        self.agent = None
-
-    def begin(self, *more):
-        self.agent = watched.Agent("--partition", self.group, *more)
-        self.agent.until(self.is_root, "a partition")
-
-    def is_root(self):
-        return os.path.exists(self.file) and read(self.file) == "root"
-
-    def come(self, name, node):
-        quota = self.asks[name]
-        self.inside[name] = watched.come(name, f"{self.group}/numarun/{name}", **({"quota": quota} if quota else {}), mems=str(node))
-
-    def on(self, name):
-        return cpus(read(f"{self.path}/numarun/{name}/cpuset.cpus"))
-
-    def is_settled(self):
-        """Each that asks for CPUs has as many of its own, and runs there and nowhere else. Who asks for none has some, since numarun knows it."""
-        return all(self.has_its_own(name) if asks else self.on(name) for name, asks in self.asks.items())
-
-    def has_its_own(self, name):
-        has = self.on(name)
-        return len(has) == self.asks[name] and not has & {1} and watched.runs_on(self.inside[name], has)
-
-    def sets(self):
-        return {name: self.on(name) for name in self.inside}
-
-    def look(self, where):
-        """Each container has CPUs, and no two share one but the reserved, unless both are on the pool, ever; and nobody outside may run where a
-        pinned one may, while the file says `root` before and behind the look."""
-        global looks
-        before, sets = self.is_root(), self.sets()
-        may = {pid: tree.allowed(pid) for pid in (*self.inside.values(), *self.outside)}
-        if sets != self.sets():
-            return
-        looks += 1
-        assert all(sets.values()), (where, sets)
-        for one, other in itertools.combinations(sets, 2):
-            assert not (sets[one] & sets[other]) - {1} or not (self.asks[one] or self.asks[other]), (where, sets)
-        if before and self.is_root():
-            for pid in self.outside:
-                for name in ("db", "net"):
-                    assert not (may[pid] or set()) & (may[self.inside[name]] or set()), (where, may, sets)
-
-    def settles(self, where):
-        self.agent.until(self.is_settled, where)
-        self.look(where)
-
-    def end(self, kill=None):
-        """The agent ends, or is killed, and then its program ends behind it, so that no lock is left."""
-        if kill:
-            self.agent.process.send_signal(kill)
-            self.agent.process.wait()
-            assert tree.until(lambda: not programs()), programs()
-        else:
-            self.agent.end()
+    what: str
+    writes: Tuple[Tuple[object, ...], ...]
+    back: Tuple[Tuple[str, str], ...] = ()
+    breaks: Tuple[bool, bool] = (False, False)
 
 
-def programs():
-    """The processes of numarun that run."""
-    found = []
-    for pid in filter(str.isdigit, os.listdir("/proc")):
-        with contextlib.suppress(OSError):
-            found += [pid] if read(f"/proc/{pid}/comm") == "numarun" and tree.alive(int(pid)) else []
-    return found
+FLAT_ALONE = (True, False)
+CPUS_OF, PARTITION_OF, EXCLUSIVE_OF = (f"system.slice/cpuset.cpus{file}" for file in ("", ".partition", ".exclusive"))
+SERVICE = "system.slice/s1/cpuset.cpus"
+CPUS_BACK = ((CPUS_OF, "0"),)
+PARTITION_BACK = ((PARTITION_OF, "member"), *CPUS_BACK)
 
 
-def breaks(scene):
-    """What others write and what the kernel answers, how it is taken back, and whether that breaks a partition right below the root. Whether a
-    list that lies wholly inside of an exclusive one beside is refused was not seen, so both answers pass there."""
-    def new():
-        os.mkdir(f"{ROOT}/new")
-        return write(f"{ROOT}/new/cpuset.cpus", "2-3")
-    below, inside = f"{ROOT}/system.slice/s1/cpuset.cpus", (0, errno.EINVAL) if "/" in scene.group else (0,)
-    yield "a slice that asks for all", lambda: write(SLICE, "0-7"), (0,), lambda: told(SLICE, "0"), True
-    yield "a slice that asks for one", lambda: write(SLICE, "3"), inside, lambda: told(SLICE, "0"), True
-    yield "a new group", new, inside, lambda: tree.remove(f"{ROOT}/new"), True
-    yield "a service in a slice", lambda: write(below, "3,5"), (0,), lambda: told(below, "0"), False
-    yield "a member", lambda: write(scene.file, "member"), (0,), lambda: None, True
+def kinds_beside():
+    """In groups beside it, or beside the group above it."""
+    yield Kind("a slice that asks for all", ((CPUS_OF, "0-7"),), CPUS_BACK, FLAT_ALONE)
+    yield Kind("a slice that asks for one", ((CPUS_OF, "3"),), CPUS_BACK, FLAT_ALONE)
+    yield Kind("a slice that is a partition of one", ((CPUS_OF, "3"), (PARTITION_OF, "root")), PARTITION_BACK, FLAT_ALONE)
+    yield Kind("a new group", (("new/cpuset.cpus", "2-3"),), (), FLAT_ALONE)
+    yield Kind("a new slice that asks for all", (("user.slice/cpuset.cpus", "0-7"),), (), FLAT_ALONE)
+    yield Kind("a service in a slice", ((SERVICE, "3,5"),), ((SERVICE, "0"),))
+    yield Kind("a service that asks for just some of them", ((SERVICE, "2-3"),), ((SERVICE, "0"),))
     if is_new():
-        exclusive = f"{ROOT}/system.slice/cpuset.cpus.exclusive"
-        yield "a slice that asks for all by exclusive", lambda: write(exclusive, "0-7"), (errno.EINVAL,), lambda: None, False
+        yield Kind("a slice that asks for all by exclusive", ((EXCLUSIVE_OF, "0-7", errno.EINVAL),))
+        yield Kind("a partition of one by exclusive", ((EXCLUSIVE_OF, "3", errno.EINVAL), (CPUS_OF, "3"), (PARTITION_OF, "root")), PARTITION_BACK, FLAT_ALONE)
 
 
-def says_broken(scene, said):
-    return [line for line in watched.lines()[said:] if line.startswith(f"partition {scene.path}: ")]
+def kinds_above_and_below(scene):
+    """In the group above it, in those beside it there, and in those below it."""
+    above = os.path.dirname(scene.group)
+    yield Kind("a group below that asks for a container's", ((f"{scene.group}/new/cpuset.cpus", "2-3"),))
+    if scene.is_deep():
+        yield Kind("other CPUs of the group above", ((f"{above}/cpuset.cpus", "0-3"),), ((f"{above}/cpuset.cpus", "0-7"),))
+        yield Kind("the group above as a partition", ((f"{above}/cpuset.cpus", "0-7"), (f"{above}/cpuset.cpus.partition", "root")),
+                   ((f"{above}/cpuset.cpus.partition", "member"),))
+        yield Kind("a group beside it in the slice", ((f"{above}/new/cpuset.cpus", "3"),), (), (False, True))
+
+
+def done(kind):
+    """Makes these writes; the groups that were made for that."""
+    made = []
+    for path, text, *refused in kind.writes:
+        group = f"{ROOT}/{os.path.dirname(path)}"
+        if not os.path.isdir(group):
+            os.mkdir(group)
+            made.append(group)
+        told(f"{ROOT}/{path}", text, *refused)
+    return made
+
+
+def blamed(kind):
+    """How the line ends that names the group which requests CPUs of the partition."""
+    path, asks = next((path, text) for path, text, *refused in kind.writes if path.endswith("/cpuset.cpus"))
+    return f"; {ROOT}/{os.path.dirname(path)} requests {asks.replace('0-7', '1-7')}"
+
+
+def taken_back(kind, made):
+    for path, text in kind.back:
+        told(f"{ROOT}/{path}", text)
+    for group in made:
+        tree.remove(group)
 
 
 def beside_others(scene):
-    deep, tried = "/" in scene.group, 0
-    for what, act, answers, take_back, is_broken in breaks(scene):
+    """Each kind of writes, what comes of it, and that all is well once it is taken back; how many."""
+    kinds = [*kinds_beside(), *kinds_above_and_below(scene)]
+    for kind in kinds:
         said = len(watched.lines())
-        answer = act()
-        assert answer in answers, (what, errno.errorcode.get(answer, answer))
-        scene.look(what)
-        if what == "a member":
-            scene.agent.until(lambda: says_broken(scene, said), what)
-        elif is_broken and not deep:
-            assert not scene.is_root(), (what, read(scene.file))
-            scene.agent.until(lambda: says_broken(scene, said), what)
-            scene.look(what)
-            assert not scene.is_root(), (what, read(scene.file))
+        made = done(kind)
+        scene.look(kind.what)
+        if kind.breaks[scene.is_deep()]:
+            assert not scene.is_root(), (kind, read(scene.file))
+            scene.agent.until(lambda: scene.said(said) and scene.said(said)[-1].endswith(blamed(kind)), kind.what)
+            scene.look(kind.what)
+            assert not scene.is_root(), (kind, read(scene.file))
         else:
             time.sleep(1)
-            assert scene.is_root() and not says_broken(scene, said), (what, read(scene.file), says_broken(scene, said))
-        scene.settles(what)
-        take_back()
-        scene.agent.until(scene.is_root, f"{what}: healed")
-        if says_broken(scene, said):
-            scene.agent.until(lambda: says_broken(scene, said)[-1].endswith(": root again"), f"{what}: said to be healed")
-        scene.settles(f"{what}: healed")
-        tried += 1
-    return tried
+            assert scene.is_root() and not scene.said(said), (kind, read(scene.file), scene.said(said))
+        scene.settles(kind.what)
+        taken_back(kind, made)
+        is_whole_again(scene, said, kind.what)
+    return len(kinds)
+
+
+def is_whole_again(scene, said, what):
+    scene.agent.until(scene.is_root, f"{what}: healed")
+    if scene.said(said):
+        scene.agent.until(lambda: scene.said(said)[-1].endswith(": root again"), f"{what}: said to be healed")
+    scene.settles(f"{what}: healed")
+
+
+def written_itself(scene):
+    """What others write into its own file: the agent makes it a partition again at once; how many texts."""
+    texts = ("member", "isolated")
+    for text in texts:
+        said = len(watched.lines())
+        told(scene.file, text)
+        scene.look(text)
+        scene.agent.until(lambda: scene.said(said), text)
+        is_whole_again(scene, said, text)
+        assert scene.said(said)[0].startswith(f"partition {scene.path}: {text}"), scene.said(said)
+    return len(texts)
+
+
+def moved_later(scene):
+    """A process that is moved into the root group behind the making: Linux 6.1 lets it run on all CPUs, and it is named; 6.12 keeps it off."""
+    pid = watched.group("system.slice/s1")
+    told(f"{ROOT}/cgroup.procs", str(pid))
+    if is_new():
+        assert tree.allowed(pid) == SYSTEM, tree.allowed(pid)
+    else:
+        assert tree.allowed(pid) == tree.CPUS, tree.allowed(pid)
+        scene.agent.says(f"loose {pid} sleeper: it may run on 1-7")
+    return pid
+
+
+# The agent.
 
 
 def of_the_agent(group):
     scene = Scene(group)
-    tree.MACHINE, before = MACHINE, tree.MACHINE
     scene.begin()
-    for name, node in (("db", 1), ("net", 3), ("web", 0)):
-        scene.come(name, node)
+    scene.containers_come()
     watched.come("out", "machine.slice/out", 2, mems="1")
     scene.settles("what comes")
     scene.agent.says(f"outside out: its group is not below {scene.path}")
     assert [tree.allowed(pid) for pid in scene.outside] == [SYSTEM, SYSTEM], [tree.allowed(pid) for pid in scene.outside]
-    tried = beside_others(scene)
+    later = moved_later(scene)
+    tried = beside_others(scene) + written_itself(scene)
     scene.end()
+    os.kill(later, signal.SIGKILL)
+    assert not is_new() or not [line for line in watched.lines() if line.startswith("loose ")], watched.lines()
     resized(scene)
+    resized_by_file(scene)
     hot_plugged(scene)
     killed(scene)
-    behind = killed_behind_each(scene)
     given_back(scene)
-    tree.MACHINE = before
-    return tried, behind
+    return tried
+
+
+def is_shrunk(scene, text, *more):
+    """An agent that begins so lets the containers leave CPUs, so that none is squeezed at any time, and then the partition has these."""
+    said, had = len(watched.lines()), scene.has()
+    scene.begin(*more)
+    scene.agent.until(lambda: scene.nobody_is_squeezed(text) and scene.has() == text, text)
+    scene.settles(text)
+    shrunk = f"partition {scene.path}: {text} in place of {had}"
+    scene.agent.says(shrunk)
+    lines = watched.lines()[said:]
+    assert "done" in lines[:lines.index(shrunk)], lines
+    assert not [line for line in lines if line.startswith("squeezed")], lines
 
 
 def resized(scene):
-    """Two CPUs are left to the system: the containers are moved away first, so that none is squeezed. Then they are the partition's again."""
-    said = len(watched.lines())
-    scene.begin("--system", "6-7")
-    scene.agent.until(lambda: read(f"{scene.path}/cpuset.cpus") == "1-5", "shrunk")
-    scene.settles("shrunk")
+    """Two CPUs are left to the system: the containers are moved away first. Then they are the partition's again."""
+    is_shrunk(scene, "1-5", "--system", "6-7")
     assert not (scene.on("db") | scene.on("net")) & {6, 7}
     assert tree.until(lambda: tree.allowed(scene.outside[0]) == {0, 6, 7}), tree.allowed(scene.outside[0])
-    scene.agent.says(f"partition {scene.path}: 1-5 in place of 1-7")
-    lines = watched.lines()[said:]
-    assert "done" in lines[:lines.index(f"partition {scene.path}: 1-5 in place of 1-7")], lines
-    assert not [line for line in lines if line.startswith("squeezed")], lines
     scene.end()
     scene.begin()
-    scene.agent.until(lambda: read(f"{scene.path}/cpuset.cpus") == "1-7", "grown")
+    scene.agent.until(lambda: scene.nobody_is_squeezed("grown") and scene.has() == "1-7", "grown")
     scene.agent.until(lambda: scene.on("net") <= {6, 7}, "moved home")
     scene.settles("grown")
+
+
+def resized_by_file(scene):
+    """The same by a machine file that lacks one of the two CPUs of a container, at the next agent too, and then has it again."""
+    scene.asks["net"] = 2
+    watched.configure("net", scene.group_of("net"), 2, mems="3")
+    scene.agent.until(lambda: scene.on("net") == {6, 7}, "two CPUs")
+    scene.end()
+    write_machine(nodes=("1", "2-3", "4-5", "6"))
+    is_shrunk(scene, "1-6")
+    assert tree.until(lambda: tree.allowed(scene.outside[0]) == {0, 7}), tree.allowed(scene.outside[0])
+    scene.end()
+    scene.brought("1-6")
+    write_machine()
+    scene.begin()
+    scene.agent.until(lambda: scene.nobody_is_squeezed("grown") and scene.has() == "1-7" and scene.on("net") == {6, 7}, "the file before")
+    scene.asks["net"] = 1
+    watched.configure("net", scene.group_of("net"), 1, mems="3")
+    scene.settles("one CPU again")
 
 
 def hot_plugged(scene):
@@ -269,15 +271,13 @@ def hot_plugged(scene):
     scene.agent.until(lambda: scene.is_root() and scene.is_settled(), "it is back")
     scene.agent.until(lambda: f"online {gone}" in watched.lines()[said:], "it is told")
     scene.look("it is back")
-    assert not says_broken(scene, said), says_broken(scene, said)
+    assert not scene.said(said), scene.said(said)
     scene.end()
 
 
 def killed(scene):
     """Killed again and again at moments by chance, while somebody breaks the partition: each container keeps the CPUs that it has."""
-    scene.begin()
-    scene.settles("before all kills")
-    scene.end()
+    scene.brought("1-7")
     chance, before = tree.chance("partitions"), scene.sets()
     for k in range(KILLS):
         scene.agent = watched.Agent("--partition", scene.group)
@@ -290,47 +290,7 @@ def killed(scene):
         scene.look(f"behind kill {k}")
         assert scene.sets() == before, (k, before, scene.sets())
     told(SLICE, "0")
-    scene.begin()
-    scene.settles("behind all kills")
-    scene.end()
-
-
-def broken_by_a_slice(scene):
-    """An invalid one, of which the cause is gone."""
-    told(SLICE, "0-7")
-    told(SLICE, "0")
-
-
-def made_a_member(scene):
-    """A member with other CPUs."""
-    told(scene.file, "member")
-    told(f"{scene.path}/cpuset.cpus", "2-7")
-
-
-def killed_behind_each(scene):
-    """Killed behind each of the writes by which it mends the partition, in turn: the next one goes on from there, and each container keeps the
-    CPUs that it has. How often it was killed."""
-    kills, before, top = 0, scene.sets(), f"{ROOT}/{scene.group.split('/')[0]}"
-    for act in ([made_a_member] if "/" in scene.group else [broken_by_a_slice, made_a_member]):
-        for k in itertools.count(1):
-            act(scene)
-            said = len(watched.lines())
-            agent = watched.Agent("--partition", scene.group, killed_behind=k, below=top)
-            ends = tree.until(lambda: agent.process.poll() is not None or any("root again" in line for line in watched.lines()[said:]), watched.SECONDS)
-            assert ends, (act, k, watched.lines()[-20:])
-            if agent.process.poll() is None:
-                agent.end()
-                break
-            assert agent.process.returncode == -signal.SIGKILL and tree.until(lambda: not programs()), (agent.process.returncode, watched.lines()[-20:])
-            kills += 1
-            scene.look(f"{act.__name__}, behind write {k}")
-            assert scene.sets() == before, (act, k, before, scene.sets())
-            scene.begin()
-            scene.settles(f"{act.__name__}, behind write {k} and mended")
-            assert read(f"{scene.path}/cpuset.cpus") == "1-7" and scene.sets() == before, (act, k, scene.sets())
-            scene.end()
-    assert kills >= 2, kills
-    return kills
+    scene.brought("1-7")
 
 
 def given_back(scene):
@@ -338,7 +298,7 @@ def given_back(scene):
     done = watched.release()
     assert done.returncode == 0, (done, watched.lines()[-20:])
     assert f"given back {scene.path}: member, cpus 0-7, since it has processes" in done.stdout, done.stdout
-    assert read(scene.file) == "member" and read(f"{scene.path}/cpuset.cpus") == "0-7", (read(scene.file), done.stdout)
+    assert read(scene.file) == "member" and scene.has() == "0-7", (read(scene.file), done.stdout)
     assert all(watched.runs_on(pid, set(range(8))) for pid in (*scene.inside.values(), scene.outside[0])), done.stdout
     assert not os.path.exists(f"{watched.WORK}/partition.json")
     assert "Traceback" not in read(watched.OUT), read(watched.OUT)[-2000:]
@@ -348,12 +308,10 @@ def given_back(scene):
 
 def is_refused(group, wanted):
     """An agent is refused with this reason, and nothing is left of what it made."""
-    tree.MACHINE, before = MACHINE, tree.MACHINE
     agent = watched.Agent("--partition", group)
-    tree.MACHINE = before
     assert agent.process.wait() == 1, group
-    said = watched.lines()[-1]
-    assert wanted in said and not os.path.exists(f"{ROOT}/{group.split('/')[0]}"), (group, said)
+    said, there = watched.lines()[-1], [name for name in os.listdir(ROOT) if name == group.split("/")[0] and os.path.isdir(f"{ROOT}/{name}")]
+    assert wanted in said and not there, (group, said)
 
 
 def refused_by_the_agent():
@@ -361,6 +319,8 @@ def refused_by_the_agent():
     write_machine(("0-1", "2-3", "4-5", "6-7"), "0")
     is_refused(NAME, "none is left to the rest of the host")
     write_machine()
+    for group in ("cgroup.procs", "cgroup.procs/x"):
+        is_refused(group, f"{ROOT}/cgroup.procs is a file, and no group")
     told(SLICE, "3")
     is_refused(NAME, f"{ROOT}/system.slice requests 3")
     told(SLICE, "0")
@@ -376,11 +336,10 @@ watched.begin()
 watched.group("system.slice/s1")
 write_machine()
 of_the_program()
+tree.MACHINE = MACHINE
 refused_by_the_agent()
-groups = [NAME, *(["numarun.slice/numarun-pinned.slice"] if is_new() else [])]
-found = [of_the_agent(group) for group in groups]
-tried, behind = (sum(counts) for counts in zip(*found))
-say(f"partitions: {tried} kinds of writes beside {' and '.join(groups)}, {KILLS * len(groups)} kills by chance and {behind} behind a write, grown, shrunk, "
-    f"hot-plugged and given back: {looks} looks")
+tried = sum(watched.timed(of_the_agent, group) for group in layouts())
+say(f"partitions: {tried} kinds of writes beside {' and '.join(layouts())}, {KILLS * len(layouts())} kills by chance, grown, shrunk, by the machine file too, "
+    f"hot-plugged and given back: {Scene.looks} looks")
 tree.remove(f"{ROOT}/system.slice")
 tree.clear()

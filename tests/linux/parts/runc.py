@@ -1,20 +1,32 @@
-"""Containers that runc makes, and the agent over runc's state, found by the runtime's name: who names CPUs is adopted where runc put it,
-limits and lists that `runc update` gives are followed, also behind an update that has no list and over a restart of the agent; pause,
-exec, kill and restart; what is given back. numarun-runc makes a container that has its CPUs before its first instruction. A state that
+"""Containers that runc makes, by the lines of operators/runtimes.md and others, and the agent over runc's state, found by the runtime's name: who
+names CPUs is adopted where runc put it, limits, lists and nodes that `runc update` gives are followed, also behind an update that has none and over a
+restart of the agent; pause, exec, kill and restart; what is given back. numarun-runc makes a container that has its CPUs before its first instruction. A state that
 is broken, and an id with a blank, are said and harm nobody else."""
 
-import json
 import os
 import sys
 
 sys.path[:0] = [os.path.join(os.path.dirname(os.path.abspath(__file__)), "..")]
 import tree
+import typed
 import watched
-from of_runc import begin, bundle, delete, process, runc
+from of_runc import begin, bundle, delete, kept, process, runc
 from tree import CPUS, ROOT, read, say
 from watched import requested, runs_on, timed
 
 WRAPPER, CONTAINERS = f"{tree.REPOSITORY}/operators/numarun-runc", "/run/numarun-containers"
+PIVOT = {word: [word, "--no-pivot"] for word in ("run", "create")}  # a first file system in memory lets nobody pivot
+LINES = typed.Lines("runc", PROGRAM=["/sleeper"], **PIVOT)
+
+
+def type_line(line, **instead):
+    runc(*LINES.words(line, **instead))
+
+
+def run(line, name, section):
+    """Types a line that runs a container of this section; its first process, and its group."""
+    type_line(line, BUNDLE=[bundle(name, section)])
+    return process(name)
 
 
 def quota(many, **more):
@@ -27,22 +39,27 @@ def has_own(pid, group, many):
     return len(cpus) == many and 0 not in cpus and runs_on(pid, cpus)
 
 
+def nodes(group):
+    return read(f"{ROOT}/{group}/cpuset.mems")
+
+
 def follows():
     """Limits, lists and a restart, and no drift in all of that."""
     agent = watched.Agent("--runtime", "all", watch=None)
     agent.says("note no such folders yet: ")
-    packets, its = begin("packets", {"cpus": "6-7"})
-    db, group = begin("db", quota(2, mems="1"))
+    two, listed = typed.sections()
+    packets, its = run("runc run --detach --bundle BUNDLE packets", "packets", listed)
+    db, group = run("runc run --detach --bundle BUNDLE db", "db", {**two, "mems": "1"})
     web, _ = begin("web", {"shares": 512})
     agent.until(lambda: runs_on(packets, {6, 7}) and runs_on(db, {2, 3}) and runs_on(web, {0, 1, 4, 5}), "three containers")
-    runc("update", "--cpu-quota", "100000", "db")
+    type_line("runc update --cpu-quota 100000 db")
     agent.until(lambda: has_own(db, group, 1), "a limit")
     runc("update", "--cpu-quota", "200000", "db")
     agent.until(lambda: runs_on(db, {2, 3}), "the limit of before")
-    runc("update", "--cpuset-cpus", "4-5", "packets")
+    type_line("runc update --cpuset-cpus 4-5 packets")
     agent.until(lambda: runs_on(packets, {4, 5}) and 6 in tree.allowed(web), "another list")
-    runc("update", "--memory", "100000000", "packets")
-    assert json.load(open("/run/runc/packets/state.json"))["config"]["cgroups"]["cpuset_cpus"] == ""  # as runc 1.1 forgets it
+    type_line("runc update --memory 100000000 packets")
+    assert kept("packets", "cpuset_cpus") == ""  # as runc 1.1 forgets it
     lines = len(watched.lines())
     begin("late", quota(1))
     agent.until(lambda: any(line.startswith("done") for line in watched.lines()[lines:]), "a look behind that")
@@ -64,25 +81,47 @@ BUNDLE_OF = {"packets": "/tmp/of-runc/packets"}
 def lives(agent, pids):
     """pause and resume change nothing; what runs in a container runs on its CPUs; one that is killed and kept gives its CPUs back, and one
     that comes back under its id gets some."""
-    runc("pause", "db")
-    runc("resume", "db")
+    type_line("runc pause db")
+    type_line("runc resume db")
     assert runs_on(pids["db"], {2, 3})
-    runc("exec", "--detach", "db", "/sleeper")
+    type_line("runc exec --detach db PROGRAM")
     agent.until(lambda: len(tree.processes(f"{ROOT}/db")) == 2 and all(runs_on(pid, {2, 3}) for pid in tree.processes(f"{ROOT}/db")), "exec")
-    runc("kill", "--all", "db", "KILL")
+    type_line("runc kill --all db KILL")
     agent.says("stopped db: ")
     agent.until(lambda: {2, 3} <= tree.allowed(pids["web"]), "its CPUs are given back")
-    delete("db")
+    type_line("runc delete db")
     db, group = begin("db", quota(3, mems="1"))
     agent.until(lambda: has_own(db, group, 3) and not tree.allowed(db) & tree.allowed(pids["packets"]), "back under its id")
-    runc("create", "--no-pivot", "--bundle", bundle("two", quota(1)), "two")
-    two, its = process("two")
+    two, its = run("runc create --bundle BUNDLE two", "two", quota(1))
     agent.until(lambda: has_own(two, its, 1), "one that is created")
-    runc("start", "two")
+    type_line("runc start two")
     assert has_own(two, its, 1)
     for name in ("two", "db"):
         delete(name)
     agent.says("ended db")
+
+
+def nodes_named(agent):
+    """Nodes in place of a home that the agent gave: runc's state has them until the next update of something else, and they stay behind that and over a
+    restart of the agent."""
+    two, group = begin("two", quota(2))
+    agent.until(lambda: has_own(two, group, 2) and nodes(group) in ("1", "3"), "a home")
+    assert kept("two", "cpuset_mems") == "" == kept("two", "cpuset_cpus")
+    type_line("runc update --cpuset-mems 0 two")
+    assert kept("two", "cpuset_mems") == "0"
+    agent.until(lambda: nodes(group) == "0" and has_own(two, group, 2) and 1 in tree.allowed(two), "nodes in place of a home")
+    runc("update", "--cpu-quota", "100000", "two")
+    assert kept("two", "cpuset_mems") == ""
+    agent.until(lambda: has_own(two, group, 1), "a limit behind that")
+    assert nodes(group) == "0" and runs_on(two, {1}), (nodes(group), tree.allowed(two), watched.lines()[-20:])
+    agent.end()
+    agent = watched.Agent("--runtime", "runc", watch=None)
+    agent.says("adopt two ")
+    runc("update", "--cpu-quota", "200000", "two")
+    agent.until(lambda: has_own(two, group, 2), "a limit that the next agent sees")
+    assert nodes(group) == "0" and 1 in tree.allowed(two), (nodes(group), tree.allowed(two), watched.lines()[-20:])
+    assert not [line for line in watched.lines() if line.startswith("drift")], watched.lines()
+    return agent
 
 
 def broken(agent, pids):
@@ -112,11 +151,12 @@ def broken(agent, pids):
 
 
 def given_back(agent, pids, group):
-    """The last list is what the group had before, as runc has it."""
+    """The last list and the last nodes are what the groups had before, as runc has them."""
     agent.end()
     done = watched.release()
     assert not done.returncode and requested(group) == "4-5" and runs_on(pids["web"], CPUS), (done, requested(group))
-    for name in ("packets", "web"):
+    assert nodes("two") == "0" and runs_on(process("two")[0], CPUS), (nodes("two"), requested("two"))
+    for name in ("packets", "web", "two"):
         delete(name)
 
 
@@ -144,9 +184,11 @@ def before_its_first_instruction():
 watched.begin()
 agent, pids, group = timed(follows)
 timed(lives, agent, pids)
+agent = timed(nodes_named, agent)
 timed(broken, agent, pids)
 timed(given_back, agent, pids, group)
 timed(before_its_first_instruction)
+LINES.are_all_typed()
 assert "Traceback" not in read(watched.OUT), read(watched.OUT)[-2000:]
-say(f"runc: {runc('--version').splitlines()[0]}: nine containers; limits, lists, a list that runc forgets, exec, kill, what is broken, and numarun-runc")
+say(f"runc: {runc('--version').splitlines()[0]}: ten containers, {len(LINES.typed)} lines of the page; limits, lists and nodes, also those that runc forgets, exec, kill, what is broken, and numarun-runc")
 tree.clear()

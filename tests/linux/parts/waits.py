@@ -1,10 +1,11 @@
 """How long a pinned container waits for its own CPUs beside busy processes in the root group and in a slice: with nothing done, with --rest,
-and in a partition. In a partition it is below a hundredth of its time, and with nothing done above a twentieth; the third is said alone."""
+and in a partition. In a partition it is below a hundredth of its time, and with nothing done above a twentieth; the third is said alone. All
+of them are there before the agent and are moved by it, but they are busy only while it is measured, since else they leave an emulated
+machine little for the agent: in a partition the system's one CPU."""
 
 import json
 import os
 import signal
-import subprocess
 import sys
 import time
 
@@ -14,11 +15,13 @@ import watched
 from tree import ROOT, read, say
 
 SECONDS, MOST, LEAST = 20, 0.01, 0.05
-LOOP = "import os, sys\nopen(sys.argv[1] + '/cgroup.procs', 'w').write('0')\nwhile True: pass"
+MANY = 5  # busy ones in the root group, and as many in the slice
+SLICE, PARTITION, MACHINE = "system.slice", "pinned", "/tmp/partition.json"
 
 
-def busy(group, many):
-    return [subprocess.Popen(["/bin/python3", "-SEB", "-c", LOOP, group]) for _ in range(many)]
+def send(pids, number):
+    for pid in pids:
+        os.kill(pid, number)
 
 
 def worked(pids):
@@ -31,48 +34,55 @@ def waited(pids):
     return sum(int(read(f"/proc/{pid}/schedstat").split()[1]) for pid in pids) / 1e9
 
 
-def measure(what, group, *more, machine=None):
-    """The share of time that the processes of a container of two CPUs wait, which are two."""
-    watched.begin()
-    outside = [*busy(ROOT, 5), *busy(watched_group("system.slice/s1"), 5)]
-    write_machine = machine or tree.MACHINE
-    before, tree.MACHINE = tree.MACHINE, write_machine
-    agent = watched.Agent(*more)
-    path = f"{group}numarun/db"
-    pid = watched.come("db", path, 2, mems="1")
-    agent.until(lambda: len(tree.cpus(watched.requested(path))) == 2 and watched.runs_on(pid, tree.cpus(watched.requested(path))), what)
-    own = busy(f"{ROOT}/{path}", 2)
-    agent.until(lambda: all(watched.runs_on(one.pid, tree.cpus(watched.requested(path))) for one in own), f"{what}: its processes")
+def share_waited(own, outside):
+    """The share of time that the ones wait for a CPU while all work."""
+    send([*own, *outside], signal.SIGUSR1)
     time.sleep(1)
-    first, work, began = waited(one.pid for one in own), worked(one.pid for one in outside), time.monotonic()
+    first, work, began = waited(own), worked([*own, *outside]), time.monotonic()
     time.sleep(SECONDS)
-    assert all(one.poll() is None for one in (*own, *outside)), f"{what}: not all of them run"
-    assert all(after > before for before, after in zip(work, worked(one.pid for one in outside))), f"{what}: not all outside work"
-    share = (waited(one.pid for one in own) - first) / (len(own) * (time.monotonic() - began))
-    for one in (*own, *outside):
-        one.send_signal(signal.SIGKILL)
-        one.wait()
-    agent.end()
-    tree.MACHINE = before
-    done = watched.release()
-    assert done.returncode == 0, done
-    for name in filter(None, {"system.slice", path.split("/")[0]}):
-        tree.remove(f"{ROOT}/{name}")
+    share = (waited(own) - first) / (len(own) * (time.monotonic() - began))
+    more = [after - before for before, after in zip(work, worked([*own, *outside]))]
+    send([*own, *outside], signal.SIGSTOP)
+    assert all(more), f"not all of them worked: {more}"
     return share
 
 
-def watched_group(path):
-    """A group with a sleeper, by its whole path."""
-    watched.group(path)
-    return f"{ROOT}/{path}"
+def measure(what, group, *more):
+    """The share of time that the processes of a container of two CPUs wait, which are two."""
+    watched.begin()
+    outside = [tree.spawn(ROOT) for _ in range(MANY)] + [watched.group(f"{SLICE}/s1") for _ in range(MANY)]
+    agent = watched.Agent(*more)
+    own = [watched.come("db", group, 2, mems="1"), watched.group(group)]
+
+    def has_its_own():
+        cpus = tree.cpus(watched.requested(group))
+        return len(cpus) == 2 and all(watched.runs_on(pid, cpus) for pid in own)
+    agent.until(has_its_own, what)
+    share = share_waited(own, outside)
+    assert has_its_own(), (what, watched.lines()[-20:])
+    agent.end()
+    done = watched.release()
+    assert done.returncode == 0, done
+    assert "Traceback" not in read(watched.OUT), read(watched.OUT)[-2000:]
+    send(outside, signal.SIGKILL)
+    for name in (SLICE, group.split("/")[0]):
+        tree.remove(f"{ROOT}/{name}")
+    say(f"waits: of its time a pinned container waited for its own CPUs {share:.1%} with {what}")
+    return share
 
 
-described = json.loads(read(tree.MACHINE))
-described.update(nodes=["1", "2-3", "4-5", "6-7"], reserved="1")
-with open("/tmp/partition.json", "w") as file:
-    json.dump(described, file)
-shares = {"nothing done": measure("nothing done", ""), "--rest": measure("--rest", "", "--rest", "system.slice"),
-          "--partition": measure("--partition", "pinned/", "--partition", "pinned", machine="/tmp/partition.json")}
-say("waits: of its time a pinned container waited for its own CPUs " + ", ".join(f"{share:.1%} with {what}" for what, share in shares.items()))
-assert shares["--partition"] < MOST and shares["nothing done"] > LEAST, shares
+def partition_machine():
+    """The machine file without the system's CPU."""
+    described = json.loads(read(tree.MACHINE))
+    described.update(nodes=["1", "2-3", "4-5", "6-7"], reserved="1")
+    with open(MACHINE, "w") as file:
+        json.dump(described, file)
+    return MACHINE
+
+
+alone = watched.timed(measure, "nothing done", "numarun/db")
+watched.timed(measure, "--rest", "numarun/db", "--rest", SLICE)
+tree.MACHINE = partition_machine()
+apart = watched.timed(measure, "--partition", f"{PARTITION}/numarun/db", "--partition", PARTITION)
+assert apart < MOST and alone > LEAST, (apart, alone)
 tree.clear()

@@ -1,7 +1,7 @@
 """What a user reads in README.md and on the pages of operators/, typed as it stands: the transcripts, pictures, explanations and dry runs;
 numarun over the kernel's own tree; the installation, the machine file, the agent as its unit starts it, containers by crun and podman, the
 hook, the pool's script, a service, what is given back, and the package. Each command of these pages is typed here, or named as one that
-isn't; the page of partitions is left to the part `partitions`."""
+isn't; those of partitions are left to the part `partition_page`."""
 
 import json
 import os
@@ -15,50 +15,31 @@ sys.path[:0] = [os.path.join(os.path.dirname(os.path.abspath(__file__)), "..")]
 import of_podman
 import tree
 import watched
+from desk import OUT, OUT_OF_AGENT, begun, done, ended, lines_of, prepare, typed, until
 from of_crun import bundle, crun, process
 from tree import ROOT, read, say
 
-TOP, OUT, OUT_OF_AGENT = tree.REPOSITORY, "/tmp/typed", "/tmp/agent"
-# Its commands name CPUs that this machine has not, and an image: the part `partitions` does with other CPUs what they do.
+TOP = tree.REPOSITORY
+# Its commands name CPUs that this machine has not, and an image: the part `partition_page` types them with others.
 APART = ("partitions.md",)
 OPERATORS = sorted(f"operators/{name}" for name in os.listdir(f"{TOP}/operators") if name.endswith(".md") and name not in APART)
 PAGES = {name: read(f"{TOP}/{name}") for name in ("README.md", *OPERATORS)}
-HERE = {"PATH": "/usr/local/bin:/usr/bin:/bin:/app", "HOME": "/root", "TERM": "dumb"}
 # What is not typed: it wants the toolchain, what makes packages, or a service manager.
 ELSEWHERE = ("bash examples/quick-look.sh", "bash tests/all.sh", "bash build.sh", "operators/install.sh --deb", "systemctl ", "journalctl ")
-BY_OTHERS = ("docker run ", "ctr run ")  # typed in the parts of docker and of containerd
-done = set()
-
-
-def typed(line, status=0, folder=TOP):
-    """What is said to a line of a shell."""
-    done.add(line)
-    with open(OUT, "w") as out:
-        ran = subprocess.run(["bash", "-c", line], stdin=subprocess.DEVNULL, stdout=out, stderr=subprocess.STDOUT, cwd=folder, env=HERE)
-    assert ran.returncode == status, (line, ran.returncode, read(OUT)[-2000:])
-    return read(OUT)
-
-
-def lines_of(page):
-    """The commands in the blocks of a page, without their comments, and what is shown behind those of a transcript."""
-    for kind, block in re.findall(r"^```(\w*)\n(.*?)^```", PAGES[page], re.M | re.S):
-        if kind == "sh" and not block.startswith("#!"):
-            yield from ((re.sub(r"\s+#.*", "", line), None) for line in block.splitlines())
-        elif kind == "" and block.startswith("$ "):
-            line, shown = block.split("\n", 1)
-            yield line[2:], shown.strip()
+# What is typed in parts of its own.
+BY_OTHERS = (*(f"{runtime} " for runtime in ("docker", "ctr", "podman", "crun", "runc")), "operators/numarun-agent host.json --cgroup /sys/fs/cgroup --runtime all --partition ")
 
 
 def command(beginning):
     """The line of the pages that begins so, as it stands there, on one of them or on several."""
-    found = {line for page in PAGES for line, _ in lines_of(page) if line.startswith(beginning)}
+    found = {line for page in PAGES for line, _ in lines_of(PAGES[page]) if line.startswith(beginning)}
     assert len(found) == 1 or beginning in found, (beginning, found)
     return beginning if beginning in found else found.pop()
 
 
 def shown_on(*pages):
     """What is shown behind a command is what it says, but for the time."""
-    for line, shown in [one for page in pages for one in lines_of(page) if one[1]]:
+    for line, shown in [one for page in pages for one in lines_of(PAGES[page]) if one[1]]:
         found, stamp = typed(line), r"\d{4}-\d\d-\d\dT[\d:.]+ "
         assert re.sub(stamp, "", found) == re.sub(stamp, "", shown), (line, found)
 
@@ -149,23 +130,6 @@ def installed():
     done.add(line)
 
 
-def begun(line):
-    """An agent by a line of a shell, which runs on."""
-    return subprocess.Popen(["bash", "-c", f"exec {line}"], cwd=TOP, env=HERE, stdin=subprocess.DEVNULL, stdout=open(OUT_OF_AGENT, "a"), stderr=subprocess.STDOUT)
-
-
-def until(agent, holds, what):
-    end = time.monotonic() + 600
-    while not holds():
-        assert agent.poll() is None and time.monotonic() < end, (what, read(OUT_OF_AGENT)[-3000:])
-        time.sleep(0.1)
-
-
-def ended(agent):
-    agent.terminate()
-    agent.wait()
-
-
 def has_own(pid, many):
     cpus = tree.allowed(pid)
     return cpus is not None and len(cpus) == many and 0 not in cpus
@@ -176,9 +140,7 @@ def by_readme():
     pid, _ = process_of_crun("first", {"quota": 200000, "period": 100000, "mems": "1"})
     assert "hold first 2-3" in typed(command("numarun-agent /etc/numarun/machine.json --runtime all --rounds")) and tree.allowed(pid) == tree.CPUS, read(OUT)
     assert "hold first 2-3" in typed(command("operators/numarun-agent host.json --runtime")) and tree.allowed(pid) == tree.CPUS, read(OUT)
-    line = command("operators/numarun-agent host.json --cgroup")
-    done.add(line)
-    agent = begun(line)
+    agent = begun(command("operators/numarun-agent host.json --cgroup /sys/fs/cgroup --runtime all"))
     until(agent, lambda: has_own(pid, 2), "README's agent")
     assert tree.allowed(pid) == {2, 3}
     ended(agent)
@@ -282,18 +244,17 @@ def package():
     assert "agent" in typed("numarun-agent --help")
     typed("numarun-describe host --cores > /etc/numarun/machine.json")
     typed("dpkg -r numarun")
-    assert not shutil.which("numarun-agent", path=HERE["PATH"])
+    assert not shutil.which("numarun-agent", path="/usr/local/bin:/usr/bin:/bin")
 
 
 def all_typed():
     """No command of the pages is left."""
     for page in PAGES:
-        for line, _ in lines_of(page):
+        for line, _ in lines_of(PAGES[page]):
             assert line in done or line.startswith(ELSEWHERE + BY_OTHERS), (page, line)
 
 
-if not os.path.lexists("/dev/fd"):
-    os.symlink("/proc/self/fd", "/dev/fd")  # as udev makes it
+prepare()
 of_podman.prepare()
 tree.clear()
 for step in (transcripts, program, on_a_real_kernel, installed, pictures, by_readme, by_the_unit, a_service, taken_away, package, all_typed):
