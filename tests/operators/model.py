@@ -22,6 +22,7 @@ NAMES = ("a", "b", "c", "d", "e", "s", "t")
 POOLED = ("s", "t")  # those of them that ask for no CPUs of their own
 NO_WRITE = "refused E50 KernelFault"
 NO_MEMORY = "refused E1 Memory"
+NOT_SEEN: Tuple[int, Cpus] = (0, NO_CPUS)
 
 
 def read(text: str) -> Cpus:
@@ -292,7 +293,7 @@ class World:
     links: Dict[str, str] = field(default_factory=dict)
     taken: Dict[str, Taken] = field(default_factory=dict)
     copies: Set[str] = field(default_factory=set)
-    seen: Dict[str, Cpus] = field(default_factory=dict)  # by its path what a group requests, as the agent saw or wrote it last
+    seen: Dict[str, Tuple[int, Cpus]] = field(default_factory=dict)  # by its path a group's inode and what it requests, as the agent saw or wrote it last
     hidden: bool = False
     withholds: bool = True  # whether the program knows strangers
     spent: bool = False     # whether it has no pids left
@@ -317,7 +318,8 @@ class World:
             return False
         if path in self.places:
             self.check(path, cpus, shared)
-            self.places[path].cpus, self.places[path].shared, self.seen[path] = cpus, shared, cpus
+            place = self.places[path]
+            place.cpus, place.shared, self.seen[path] = cpus, shared, (place.inode, cpus)
         return True
 
     def end_processes(self, path: Optional[str]) -> None:
@@ -358,10 +360,11 @@ class World:
     def check(self, path: str, cpus: Cpus, shared: bool) -> None:
         """What a write gives is nobody else's own, and what it gives as one's own is nobody else's at all, as the agent saw it last. Who requests
         CPUs without a reserved one has them as its own, unless it was written as one that is on the pool."""
-        given = cpus - self.places[path].cpus - self.seen.get(path, NO_CPUS)
+        given = cpus - self.places[path].cpus - self.seen.get(path, NOT_SEEN)[1]
         for other, place in self.places.items():
-            own, both = not place.cpus & RESERVED and not place.shared, given & place.cpus & self.seen.get(other, NO_CPUS)
-            if other != path and place.populated and both and (own or not (shared or cpus & RESERVED)):
+            inode, requested = self.seen.get(other, NOT_SEEN)
+            own, both = not place.cpus & RESERVED and not place.shared, given & place.cpus & requested
+            if other != path and inode == place.inode and place.populated and both and (own or not (shared or cpus & RESERVED)):
                 self.wrong.append(f"{path} is given {shown(both)}, which {other} has")
 
     # What happens.
@@ -512,7 +515,7 @@ class World:
         held = {one.group.path for one in told.values() if isinstance(one, Found)}
         inodes = {**{stranger.path: stranger.inode for stranger in ledger.strangers.values()}, **{path: entry.inode for path, entry in ledger.taken.items()}}
         held |= {path for path, inode in inodes.items() if path in self.places and self.places[path].inode == inode}
-        self.seen = {path: group.cpus for path, group in groups.items() if path in held and isinstance(group, Group)}
+        self.seen = {path: (group.inode, group.cpus) for path, group in groups.items() if path in held and isinstance(group, Group)}
         return Look(self.now, told, groups, Online(self.online))
 
     def found(self, name: str, bundle: Bundle) -> Union[Found, Missing]:
