@@ -66,9 +66,10 @@ def work_through(ledger: Ledger, look: Look) -> Steps[None]:
     ended = yield from end_those_gone(turn)
     yield from mend_all(turn)
     followed = yield from follow_all(turn)
+    forgotten = yield from let_go_of_strangers(turn)
     taken = yield from take_all(turn)
     yield from undo_late_writes(turn, ended)
-    if happened or ended or followed or taken:
+    if happened or ended or followed or forgotten or taken:
         ledger.due = True
         ledger.end_pause("plan")
     if not ledger.ending:
@@ -83,9 +84,9 @@ def settle_the_rest(turn: Turn) -> Steps[None]:
     yield from keep_partition(turn, is_planned=False)
     if ledger.has_tree:
         yield from let_go(turn)
-        if (yield from let_go_of_strangers(turn)):
-            ledger.due = True
-            ledger.end_pause("plan")
+    if (yield from let_go_of_strangers(turn)):
+        ledger.due = True
+        ledger.end_pause("plan")
     if ledger.unmade and ledger.is_over("update", "", turn.now):
         ledger.due, ledger.unmade = True, False
     ledger.due = ledger.due or ledger.untried and ledger.is_over("room", "", turn.now)

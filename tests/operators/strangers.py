@@ -235,6 +235,17 @@ def plan_behind() -> None:
 
 
 @case
+def ended_as_others_come() -> None:
+    """Before the first plan of a run one that has ended is forgotten before those are told of who come, so that they begin on what it leaves."""
+    new, plan = found("n", asks(7)), ["plan total 70", "hold n 1-7", "pool 0", "end"]
+    ledger = ledger_of()
+    ledger.pool, ledger.strangers = None, {"~x": Stranger("/t/x", 7, cpus("4-5"))}
+    commands, ledger = looked(ledger, {"rebalance": plan, "begin direct": plan}, told={"n": new}, groups=groups_of(new))
+    check("in this order", [line for line in lines_asked(commands) if line.split(" ")[0] in ("forget", "offline", "rebalance", "begin")], ["forget ~x", "rebalance", "begin direct"])
+    check("where it begins", (trial_of(commands, False), ledger.strangers), (["adopt n 1-7"], {}))
+
+
+@case
 def told_at_last() -> None:
     """One of whom nobody told is told of: it keeps its CPUs, and nobody is kept off them for the group any more."""
     commands, ledger = starting(left(x=RUNS), groups={"/t/x": RUNS})
