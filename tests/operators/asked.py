@@ -10,10 +10,10 @@ from decided import FOUR, QUOTA, as_given, asks, config_of, container, cpus, don
 from parts import asking, found, groups_of, one, trial_of
 from trial import case, check
 from numarun_host import configs, newcomers, placing, room, sightings, slices
-from numarun_host.commands import Taken, Tell, Write
+from numarun_host.commands import Ask, Taken, Tell, Write
 from numarun_host.configs import Demand, Pin
 from numarun_host.cpus import Cpus, print_list
-from numarun_host.ledger import Kind, State, Topic
+from numarun_host.ledger import Kind, Problem, State, Topic
 from numarun_host.script import Refused
 from numarun_host.seen import Found, Group, Look, Missing, Told
 from numarun_host.telling import Turn
@@ -226,8 +226,33 @@ def nothing_to_give() -> None:
     """One for which there is a plan with just what it is given is told nothing: it keeps that until there is room."""
     held = one("a", State.PINNED, cpus=cpus("1-2"), **asking(2, wanted=3))
     ledger = ledger_of(held)
+    ledger.problems[Topic.DEMAND, "a"] = Problem(Kind.REFUSED, "a", "what it wanted before")
     trial = room.Trial(Turn(ledger, Look(10.0)), {"a"})
     steps = room.try_demand(trial, held, held.wanted, held.given)
     commands, _ = done(steps, {"rebalance": ["plan total 0", "hold a 1-2", "pool 0,3-7", "end"]})
     check("told", [command for command in commands if isinstance(command, Tell) and not command.trial], [])
     check("said", said(commands), ["keeps a: that would move it: it stays at 2 CPUs until there is room"])
+    check("what was refused before is left undone no more", [key for key in ledger.problems if key[0] is Topic.DEMAND], [])
+
+
+@case
+def refused_while_it_waits() -> None:
+    """One that waits, and whose config is refused by now, gets what it asked for before: the refusal is left undone yet. Of one that wants what can be had it is not."""
+    for state, wanted, expected in ((State.WAITING, None, True), (State.PINNED, 3, False)):
+        held = one("a", state, **asking(2, 0 if wanted is None else 2, wanted=wanted))
+        ledger = ledger_of(held)
+        ledger.problems[Topic.DEMAND, "a"] = Problem(Kind.REFUSED, "a", "E63")
+        done(room.give(Turn(ledger, Look(10.0)), held, asking(2)["demand"], asking(2)["demand"]))
+        check(state.value, (Topic.DEMAND, "a") in ledger.problems, expected)
+
+
+@case
+def certificate_of_a_trial() -> None:
+    """Why one waits the trial's certificate tells, and it is kept once."""
+    short = ["short demand 9 allowed 1-7", "member a", "end"]
+    for file, expected in (("", [True]), ("/c/1", [])):
+        held = one("a", State.WAITING, certificate=file, **asking(9, 0))
+        ledger = ledger_of(held, certificates="/c")
+        trial = room.Trial(Turn(ledger, Look(10.0)), {"a"})
+        commands, _ = done(room.try_demand(trial, held, held.demand, held.demand), {"rebalance": short, "certificate": ["cert 1", "end"], "": ["/c/1"]})
+        check(f"with {file!r}", ([each.trial for each in commands if isinstance(each, Ask) and each.line == "certificate"], ledger.containers["a"].certificate), (expected, "/c/1"))

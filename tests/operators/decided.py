@@ -1012,6 +1012,7 @@ def nodes_of_updates() -> None:
     rows: Sequence[Tuple[str, Optional[str], Config, Optional[str], int, Optional[str], Optional[str]]] = (
         ("none", None, {}, None, 1, "/f", None), ("its config's", "0,1", config_of(mems="0-1"), None, 1, "/f", None), ("an update's", "2", config_of(mems="1"), None, 1, "/f", "2"),
         ("where the config has none", "2", {}, "3", 1, "/f", "2"), ("forgotten", "", {}, "3", 1, "/f", "3"), ("of another group", "", {}, "3", 2, "/f", None), ("no list", "x", {}, None, 1, "/f", None),
+        ("no list, and its config has one", "x", config_of(mems="1"), None, 1, "/f", None),
         ("none that the machine has", "2,4", {}, None, 1, "/f", None), ("the system's", "2", {}, "3", 1, None, None),
     )
     for name, told, config, before, inode, folder, expected in rows:

@@ -622,6 +622,7 @@ def follows_at_its_time() -> None:
     check("in a pause", (done(changes.follow(turn, "a", new))[1], ledger.containers["a"].wanted), (False, None))
     ledger.pauses.clear()
     ledger.problems[Topic.ROOM, "a"] = Problem(Kind.KEEPS, "a", "a")
+    ledger.problems[Topic.DEMAND, "a"] = Problem(Kind.REFUSED, "a", "a")
     ledger.change("a", **asking(3, 2, 4))
     done(changes.follow(turn, "a", dataclasses.replace(new, config=ledger.containers["a"].given.config)))
     check("what it is given settles what it wanted", (ledger.problems, ledger.containers["a"].wanted), ({}, None))
@@ -726,6 +727,10 @@ def mending() -> None:
     turn.there, turn.ledger = {"a": seen}, ledger
     done(changes.mend(turn, held, seen))
     check("as it is seen by then", (ledger.containers["a"].seen.group, ledger.containers["a"].seen.nodes, turn.there["a"].nodes), (group, cpus("0"), cpus("0")))
+    ledger.change("a", followed=None)
+    done(changes.mend(turn, ledger.containers["a"], dataclasses.replace(seen, named=cpus("2"))))
+    check("with the nodes of an update", (ledger.containers["a"].seen.nodes, turn.there["a"].nodes), (cpus("2"), cpus("2")))
+    ledger.put(held)
     ledger.pauses["container", "a"] = Pause(11.0, 1.0)
     check("in its pause", done(changes.mend(turn, held, seen))[0], [])
 
@@ -750,6 +755,11 @@ def drifts() -> None:
         seen = dataclasses.replace(sighting(), told=Told("/b", "/f", listed=told_list), listed=listed)
         check(name, (said(done(changes.say_drift(ledger, ledger.containers["a"], seen, "x"))[0]), key in ledger.unsaid), (lines, left))
         check(f"{name}: left undone", key in ledger.problems, listed is None)
+    for has, nodes, expected in (("1-2", "1", []), ("5", "1", ["drift x"]), ("1-2", "0", ["drift x"])):
+        seen = dataclasses.replace(sighting(), named=cpus("1"))
+        ledger = ledger_of(one("a", State.PINNED, seen=seen, cpus=cpus("1-2"), nodes=cpus("0"), **asking(2)))
+        seen = dataclasses.replace(seen, group=dataclasses.replace(seen.group, cpus=cpus(has), nodes=cpus(nodes)))
+        check(f"an update's nodes 1, and it has {has} on {nodes}", said(done(changes.say_drift(ledger, ledger.containers["a"], seen, "x"))[0]), expected)
 
 
 @case
@@ -862,6 +872,10 @@ def nodes() -> None:
         check(f"{has} in place of {own}, {given}", changes.nodes_drifted(ledger, held, now), expected)
         system = dataclasses.replace(now, told=Told("", None))
         check(f"{has} in place of {own}, of the system", changes.nodes_drifted(ledger, held, system), expected or has == "1")
+    held = dataclasses.replace(container("a", State.PINNED, 1), seen=sighting(), nodes=cpus("0"))
+    for has, expected in (("1", False), ("", True)):
+        now = dataclasses.replace(sighting(nodes=cpus(has)), named=cpus("1"))
+        check(f"{has} behind an update by which it gets 1", changes.nodes_drifted(ledger, held, now), expected)
 
 
 @case
