@@ -247,6 +247,17 @@ def refused_while_it_waits() -> None:
 
 
 @case
+def no_room_for_what_is_refused() -> None:
+    """What is refused waits for no room any more. One that takes fewer CPUs than it asks for does so yet where something else that it wanted is refused."""
+    for wanted, kind, expected in ((None, Kind.WAITS, False), (None, Kind.KEEPS, False), (None, Kind.FEWER, False), (3, Kind.WAITS, False), (3, Kind.KEEPS, False), (3, Kind.FEWER, True)):
+        held = one("a", State.PINNED, **asking(2, 1, wanted))
+        ledger = ledger_of(held)
+        ledger.problems[Topic.ROOM, "a"] = Problem(kind, "a", "until there is room")
+        commands, _ = done(room.say_refused(ledger, held, room.Outcome("refused E63 NoSuchCpu 9")))
+        check(f"{kind} {wanted}", ((Topic.ROOM, "a") in ledger.problems, said(commands)), (expected, ["refused E63 NoSuchCpu 9: a /b: it stays as it was"]))
+
+
+@case
 def certificate_of_a_trial() -> None:
     """Why one waits the trial's certificate tells, and it is kept once."""
     short = ["short demand 9 allowed 1-7", "member a", "end"]
