@@ -9,8 +9,8 @@ from typing import Dict, Mapping, Optional
 from decided import FOUR, QUOTA, as_given, asks, config_of, container, cpus, done, ledger_of, looked, said, sighting
 from parts import asking, found, groups_of, one, trial_of
 from trial import case, check
-from numarun_host import configs, newcomers, placing, room, sightings, slices
-from numarun_host.commands import Ask, Taken, Tell, Write
+from numarun_host import configs, newcomers, placing, plans, room, sightings, slices
+from numarun_host.commands import Answer, Ask, OpenTrial, Taken, Tell, Write
 from numarun_host.configs import Demand, Pin
 from numarun_host.cpus import Cpus, print_list
 from numarun_host.ledger import Kind, Problem, State, Topic
@@ -255,6 +255,35 @@ def no_room_for_what_is_refused() -> None:
         ledger.problems[Topic.ROOM, "a"] = Problem(kind, "a", "until there is room")
         commands, _ = done(room.say_refused(ledger, held, room.Outcome("refused E63 NoSuchCpu 9")))
         check(f"{kind} {wanted}", ((Topic.ROOM, "a") in ledger.problems, said(commands)), (expected, ["refused E63 NoSuchCpu 9: a /b: it stays as it was"]))
+
+
+@case
+def made_to_wait() -> None:
+    """One that is made to wait waits for what it wants by now, so what was refused before is left undone no more."""
+    held = one("a", State.PINNED, cpus=cpus("1-2"), **asking(2, wanted=3))
+    ledger = ledger_of(held)
+    ledger.problems[Topic.DEMAND, "a"] = Problem(Kind.REFUSED, "a", "E63")
+    check("it waits", done(room.make_wait(Turn(ledger, Look(10.0)), "a", "no place"))[1], True)
+    check("for this", ([key[0] for key in ledger.problems], ledger.containers["a"].demand.count), ([Topic.ROOM], 3))
+
+
+@case
+def others_room_behind_a_plan() -> None:
+    """Behind a plan it is tried who may get more, where that was not tried before; but not once the agent is told to end in its hand-over, nor where memory
+    lacked for the first trial, which is tried again behind a pause."""
+    short, plan = ("short demand 9 allowed 1-7", "member p", "end"), ("plan total 0", "pool 0-7", "end")
+    for ends, trial, expected in ((False, short, 2), (True, short, 1), (False, ("refused E1 Memory",), 1)):
+        turn, opened = Turn(ledger_of(one("p", State.PINNED, **asking(2)), one("w", State.WAITING, **asking(9, 0))), Look(10.0)), 0
+        turn.ledger.due = True
+        steps, answers = plans.arrange(turn), {"rebalance": trial, "begin direct": plan, "step": ("done",)}
+        try:
+            command = next(steps)
+            while True:
+                opened += isinstance(command, OpenTrial)
+                line = command.line if isinstance(command, Ask) else ""
+                command = steps.send(Answer(answers.get(line, ("ok",)), ending=ends and line == "begin direct"))
+        except StopIteration:
+            check(f"told to end: {ends}, {trial[0]}", (opened, turn.ledger.due), (expected, False))
 
 
 @case
