@@ -232,6 +232,10 @@ def plan_behind() -> None:
     check("while it runs", lines_asked(commands), [])
     commands, after = looked(ledger)
     check("it has ended", ([line for line in lines_asked(commands) if line in ("forget ~x", "begin direct")], after.pauses), (["forget ~x", "begin direct"], {}))
+    x, refused = found("x", asks(9), "4-5", path="/t/x"), ["refused E66 QuotaTooLarge"]
+    commands, after = looked(ledger, {"adopt": refused, "create": refused}, told={"x": x}, groups={"/t/x": RUNS})
+    check("its container is refused at this look", ([line for line in lines_asked(commands) if line in ("forget ~x", "begin direct")], ("plan", "") in after.pauses),
+          (["forget ~x", "begin direct"], False))
 
 
 @case
