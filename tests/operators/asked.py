@@ -6,14 +6,14 @@ from __future__ import annotations
 import dataclasses
 from typing import Dict, Mapping, Optional
 
-from decided import FOUR, QUOTA, as_given, asks, config_of, container, cpus, done, ledger_of, looked, said, sighting
+from decided import FOUR, QUOTA, as_given, asks, config_of, container, cpus, done, ledger_of, lines_asked, looked, said, sighting
 from parts import asking, found, groups_of, one, trial_of
 from trial import case, check
 from numarun_host import configs, newcomers, placing, plans, room, sightings, slices
 from numarun_host.commands import Answer, Ask, OpenTrial, Taken, Tell, Write
 from numarun_host.configs import Demand, Pin
 from numarun_host.cpus import Cpus, print_list
-from numarun_host.ledger import Kind, Problem, State, Topic
+from numarun_host.ledger import Kind, Pause, Problem, State, Topic
 from numarun_host.script import Refused
 from numarun_host.seen import Found, Group, Look, Missing, Told
 from numarun_host.telling import Turn
@@ -284,6 +284,15 @@ def others_room_behind_a_plan() -> None:
                 command = steps.send(Answer(answers.get(line, ("ok",)), ending=ends and line == "begin direct"))
         except StopIteration:
             check(f"told to end: {ends}, {trial[0]}", (opened, turn.ledger.due), (expected, False))
+
+
+@case
+def tried_again_behind_a_pause() -> None:
+    """What could not be tried, as memory lacked for it, is tried again by another plan, but not before its pause is over."""
+    ledger = ledger_of()
+    ledger.untried, ledger.due, ledger.pauses["room", ""] = True, False, Pause(99.0, 1.0)
+    for now, expected in ((98.0, False), (99.0, True)):
+        check(f"at {now}", "begin direct" in lines_asked(looked(ledger, now=now)[0]), expected)
 
 
 @case
