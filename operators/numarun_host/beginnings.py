@@ -4,7 +4,7 @@ is on the reserved CPUs who need not be, while the kernel moves his pages."""
 from __future__ import annotations
 
 from dataclasses import dataclass
-from typing import Dict, Optional, Sequence, Tuple
+from typing import Dict, List, Optional, Sequence, Tuple
 
 from .commands import CloseTrial, Steps
 from .configs import Demand
@@ -41,9 +41,10 @@ class Beginning:
 
 def beginnings(turn: Turn, comers: Sequence[Comer]) -> Steps[Dict[str, Beginning]]:
     """Where each of them begins by a plan. Nobody is named where there is none, nor who is refused, or gets no others than the reserved CPUs."""
-    ledger, waiting = turn.ledger, those_who_wait(turn, comers)
-    asking = [comer for comer in comers if comer.given.count is not None and comer.name not in waiting]
-    outcome, short = yield from plan_of(turn, asking)
+    ledger, trial = turn.ledger, Trial(turn)
+    yield from trial.open()
+    asking, waiting = yield from begin_all(trial, comers)
+    outcome, short = yield from plan_of(trial, asking)
     if not outcome.is_plan:
         return {}
     asking, waits = [comer for comer in asking if comer.name not in short], {**{name: Wait(why) for name, why in waiting.items()}, **short}
@@ -55,37 +56,36 @@ def beginnings(turn: Turn, comers: Sequence[Comer]) -> Steps[Dict[str, Beginning
     return {name: Beginning(has, waits.get(name)) for name, has in cpus.items() if not has <= ledger.reserved}
 
 
-def plan_of(turn: Turn, asking: Sequence[Comer]) -> Steps[Tuple[Outcome, Dict[str, Wait]]]:
-    """The plan of a trial with those who ask for CPUs of their own, but for the youngest of those who are short together, and why these wait."""
-    trial = Trial(turn)
-    yield from trial.open()
-    for comer in asking:
-        yield from trial.begin(comer.name, comer.given, comer.cpus if comer.keeps else NO_CPUS)
+def plan_of(trial: Trial, asking: Sequence[Comer]) -> Steps[Tuple[Outcome, Dict[str, Wait]]]:
+    """The trial's plan with those who ask for CPUs of their own, but for the youngest of those who are short together, and why these wait."""
     outcome = yield from trial.plan()
     short: Dict[str, Wait] = {}
     while outcome.shortage:
         members = [comer for comer in asking if comer.name in outcome.shortage.members and not comer.keeps and comer.name not in short]
         if not members:
             break
-        short[members[-1].name] = Wait(outcome.shortage.text, (yield from keep_certificate(turn.ledger, trial=True)))
+        short[members[-1].name] = Wait(outcome.shortage.text, (yield from keep_certificate(trial.turn.ledger, trial=True)))
         yield from trial.end(members[-1].name)
         outcome = yield from trial.plan()
     yield CloseTrial()
     return outcome, short
 
 
-def those_who_wait(turn: Turn, comers: Sequence[Comer]) -> Dict[str, str]:
-    """The youngest of those that have no CPUs yet, as many as would bring the pool below what is left to it, and why they wait. One that asks for
-    more CPUs than there are is refused, and does not wait."""
-    settings = turn.ledger.settings
+def begin_all(trial: Trial, comers: Sequence[Comer]) -> Steps[Tuple[List[Comer], Dict[str, str]]]:
+    """Tells a trial of those that ask for CPUs of their own, but for the youngest of those that have none yet, as many as would bring the pool below
+    what is left to it, and why these wait. Who is refused takes none, and who asks for more CPUs than there are is refused, and does not wait."""
+    turn, settings = trial.turn, trial.turn.ledger.settings
     given = sum(comer.given.count or 0 for comer in comers if comer.keeps)
+    asking: List[Comer] = []
     waiting: Dict[str, str] = {}
-    for comer in comers if settings.pool_least else []:
+    for comer in comers:
         count = comer.given.count
-        if comer.keeps or count is None or count > len(settings.machine.present):
+        if count is None:
             continue
-        if given + count > left_to_the_pool(turn):
+        if settings.pool_least and not comer.keeps and count <= len(settings.machine.present) and given + count > left_to_the_pool(turn):
             waiting[comer.name] = pool_text(turn, given + count)
-        else:
-            given += count
-    return waiting
+            continue
+        reply = yield from trial.begin(comer.name, comer.given, comer.cpus if comer.keeps else NO_CPUS)
+        given += 0 if comer.keeps or reply.fault is not None else count
+        asking.append(comer)
+    return asking, waiting

@@ -458,11 +458,16 @@ def comer(name: str, count: Optional[int], has: str = "") -> Comer:
 
 @case
 def who_begins_to_wait() -> None:
-    """The youngest who have no CPUs wait, as many as would bring the pool below what it keeps; who asks for none does not, nor who asks for more than there are."""
-    several = (comer("k", 3, "1-3"), comer("s", None, "4"), comer("t", None), comer("fits", 2), comer("more", 1), comer("all", 8), comer("refused", 9))
+    """The youngest who have no CPUs wait, as many as would bring the pool below what it keeps; who asks for none does not, nor who asks for more than there are;
+    and who is refused takes none of them."""
+    several = (comer("k", 3, "1-3"), comer("s", None, "4"), comer("t", None), comer("bad", 2), comer("fits", 2), comer("more", 1), comer("all", 8), comer("refused", 9))
+    refused = {f"create {name}": [f"refused {fault}"] for name, fault in (("bad", "E63 NoSuchCpu 90"), ("refused", "E66 QuotaTooLarge"))}
     lines = {name: f"it would leave {left} CPUs to the pool, and that keeps 3" for name, left in (("more", 2), ("all", 0))}
     for keeps in (0, 3):
-        check(f"the pool keeps {keeps}", beginnings.those_who_wait(Turn(ledger_of(pool_least=keeps), Look(10.0)), several), lines if keeps else {})
+        commands, (asking, waiting) = done(beginnings.begin_all(room.Trial(Turn(ledger_of(pool_least=keeps), Look(10.0))), several), refused)
+        begun = ["k", "bad", "fits", "refused"] if keeps else ["k", "bad", "fits", "more", "all", "refused"]
+        check(f"the pool keeps {keeps}", ([each.name for each in asking], waiting), (begun, lines if keeps else {}))
+        check(f"the pool keeps {keeps}: how they begin", [f"{each.verb.value} {each.name}" for each in commands if isinstance(each, Tell)], ["adopt k", *(f"create {name}" for name in begun[1:])])
 
 
 @case
@@ -474,10 +479,10 @@ def beginnings_by_plan() -> None:
     check("on the pool", {name: (print_list(begins.cpus), begins.waits) for name, begins in found_here.items()}, dict.fromkeys(("s", "own", "with"), ("0,6-7", None)))
     check("the trial is closed", [type(each) for each in commands][-1], CloseTrial)
     short = ["short demand 9 allowed 1-7", "member a", "member k", "end"]
-    commands, (outcome, waits) = done(beginnings.plan_of(Turn(ledger_of(), Look(10.0)), (comer("a", 5), comer("k", 1, "1"), comer("young", 5))), {"rebalance": short})
+    commands, (outcome, waits) = done(beginnings.plan_of(room.Trial(Turn(ledger_of(), Look(10.0))), (comer("a", 5), comer("k", 1, "1"), comer("young", 5))), {"rebalance": short})
     check("who waits", (waits, outcome.is_plan), ({"a": Wait("short demand 9 allowed 1-7")}, False))
     check("it is ended in the trial", [each.line for each in commands if isinstance(each, Ask)], ["rebalance", "kill a KILL", "delete a", "rebalance"])
-    kept = Turn(ledger_of(certificates="/c"), Look(10.0))
+    kept = room.Trial(Turn(ledger_of(certificates="/c"), Look(10.0)))
     commands, (_, waits) = done(beginnings.plan_of(kept, (comer("a", 5), comer("k", 1, "1"))), {"rebalance": short, "": ["/c/1"]})
     check("by which certificate", (waits, [each.trial for each in commands if isinstance(each, Ask) and each.line == "certificate"]), ({"a": Wait(short[0], "/c/1")}, [True]))
     come = {name: found(name, asks(count)) for name, count in (("a", 5), ("w", 4))}

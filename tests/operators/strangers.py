@@ -196,7 +196,8 @@ def counted() -> None:
     turn.coming, turn.spare = {"/t/x"}, None
     check("one of them comes", (print_list(strangers.withheld(turn)), room.left_to_the_pool(turn)), ("5-6", 3))
     several = [beginnings.Comer("n", asking(4)["demand"], cpus(""), False)]
-    check("who would wait", (list(beginnings.those_who_wait(turn, several)), list(beginnings.those_who_wait(Turn(ledger, Look(10.0)), several))), (["n"], ["n"]))
+    waiting = [list(done(beginnings.begin_all(room.Trial(each), several))[1][1]) for each in (turn, Turn(ledger, Look(10.0)))]
+    check("who would wait", waiting, [["n"], ["n"]])
     ledger.running = cpus("0-4")
     check("those that run", print_list(strangers.withheld(Turn(ledger, Look(10.0)))), "4")
 
