@@ -20,7 +20,7 @@ COUNT = 200
 CALLS = 28           # of a look, for each container, at most; and those beside
 CALLS_BESIDE = 400
 SECONDS = 0.010      # of processor, for a look, on a machine that does nothing else
-BUSY = 2.0           # what it may take more where more runs than there are processors: threads that share a core slow each other down
+BUSY = 2.0           # what it may take more where half of the processors are busy: threads that share a core slow each other down
 MEGABYTES = 25
 LOOKS = 160
 PAUSE = "0.05"
@@ -110,7 +110,7 @@ def seconds() -> None:
     few = min(spent(site, 2) for _ in range(3))
     many = min(spent(site, 2 + LOOKS) for _ in range(3))
     each, load, processors = (many - few) / LOOKS, os.getloadavg()[0], len(os.sched_getaffinity(0))
-    most = SECONDS * SLOWER * (1 if load < processors else BUSY)
+    most = SECONDS * SLOWER * (1 if load < processors / 2 else BUSY)
     print(f"an idle look of {COUNT} containers: {1000 * each:.1f} ms of processor, of at most {1000 * most:.0f}, at load {load:.1f} on {processors}")
     check("seconds of an idle look", each <= most, True)
 
