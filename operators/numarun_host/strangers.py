@@ -63,7 +63,7 @@ def let_go_of_strangers(turn: Turn) -> Steps[bool]:
     """Forgets those that need not be kept from others any more, each with its reason; whether there was one. Those that the look finds so are
     forgotten before newcomers are told of, so that none of these begins on the reserved CPUs while nobody requests others."""
     ledger = turn.ledger
-    if ledger.ending or not ledger.has_tree:
+    if ledger.ending:
         return False
     names = {seen.group.path: name for name, seen in turn.there.items()}
     why_gone = {name: why_forgotten(turn, stranger, names.get(stranger.path)) for name, stranger in ledger.strangers.items()}

@@ -142,8 +142,10 @@ def let_go() -> None:
         expected = [Ask("forget ~x"), Unlink("~x")] if why else []
         check(f"{group} {owners} {refused}", ([each for each in commands if isinstance(each, (Ask, Unlink))], said(commands), happened, list(ledger.strangers)),
               (expected, [f"forgotten /t/x: {why}"] if why else [], bool(why), [] if why else ["~x"]))
-    ledger.strangers = {"~x": Stranger("/t/x", 7, cpus("4-5"))}
+    ledger.strangers, ledger.ending = {"~x": Stranger("/t/x", 7, cpus("4-5"))}, True
     turn = Turn(ledger, Look(0.0))
+    check("it is left to the next agent", (done(strangers.let_go_of_strangers(turn)), list(ledger.strangers)), (([], False), ["~x"]))
+    ledger.ending = False
     turn.there = {"t": dataclasses.replace(sighting("/t/x"), group=RUNS)}
     check("numarun knew none", (done(strangers.let_go_of_strangers(turn), {"forget": ["refused E105 NoStranger"]})[1], ledger.strangers), (True, {}))
     ledger.strangers = {"~x": Stranger("/t/x", 7, cpus("4-5"))}
