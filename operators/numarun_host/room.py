@@ -230,6 +230,8 @@ def try_demand(trial: Trial, container: Container, wanted: Demand, fits: Demand)
         yield from report_failure(ledger, name, container.seen.place, Reply((why.text,), why.text))
     elif why and not why.shortage and not why.is_plan:
         yield from say_refused(ledger, container, why)
+        if container.wanted and container.given.count != container.demand.count:  # it may still get what it asked for before
+            yield from try_one(trial, ledger.containers[name])
     elif given and given != container.given:
         yield from give(turn, container, given, wanted)
     elif container.state is State.WAITING:

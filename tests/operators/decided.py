@@ -59,8 +59,8 @@ def said(commands: Sequence[Command]) -> List[str]:
 
 
 def done(steps: Steps[T], answers: Mapping[str, Sequence[str]] = {}, faults: Mapping[Type[object], str] = {}) -> Tuple[List[Command], T]:
-    """What is yielded, and what it ends with; a line for numarun is answered as told here by itself or by its first word, or by `ok`, and the
-    commands of which a fault is named fail."""
+    """What is yielded, and what it ends with; a line for numarun is answered as told here by itself, with the CPUs that are asked for behind it or
+    without them, or by its first word, or by `ok`, and the commands of which a fault is named fail."""
     commands: List[Command] = []
     try:
         command = next(steps)
@@ -68,10 +68,19 @@ def done(steps: Steps[T], answers: Mapping[str, Sequence[str]] = {}, faults: Map
             commands.append(command)
             line = command.line if isinstance(command, Ask) else f"{command.verb.value} {command.name}" if isinstance(command, Tell) else ""
             known: Dict[str, Sequence[str]] = {**ANSWERS, **answers}
-            command = steps.send(Answer(tuple(known.get(line, known.get(line.split(" ")[0], ["ok"]))), why=faults.get(type(command))))
+            keys = (f"{line} {count_in(command)}", line, line.split(" ")[0])
+            answer = next((known[key] for key in keys if key in known), ["ok"])
+            command = steps.send(Answer(tuple(answer), why=faults.get(type(command))))
     except StopIteration as end:
         found: T = end.value
         return commands, found
+
+
+def count_in(command: Command) -> int:
+    """The CPUs that the quota of what is told asks for, or none."""
+    config: Any = command.config if isinstance(command, Tell) else {}
+    section = config.get("linux", {}).get("resources", {}).get("cpu", {})
+    return int(section.get("quota", 0)) // int(section.get("period", QUOTA))
 
 
 def sighting(path: str = "/t/a", config: Optional[Mapping[str, object]] = None, **group: object) -> Sighting:

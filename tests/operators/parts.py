@@ -1095,7 +1095,6 @@ def rooms_said() -> None:
         ("would move", State.PINNED, asking(2, wanted=3, annotations=stay), 0, plan, ["keeps a: that would move it: it stays at 2 CPUs until there is room"]),
         ("takes fewer", State.PINNED, least(3, 1, 2), 0, short, []),
         ("refused", State.PINNED, asking(2, wanted=5), 0, ["refused E66 QuotaTooLarge"], ["refused E66 QuotaTooLarge: a /b: it stays as it was"]),
-        ("refused, and it has fewer", State.PINNED, asking(3, 2, 5), 0, ["refused E66 QuotaTooLarge"], ["refused E66 QuotaTooLarge: a /b: it stays as it was"]),
         ("refused, and it waits", State.WAITING, asking(3, 0), 0, ["refused E66 QuotaTooLarge"], ["refused E66 QuotaTooLarge: a /b: it stays as it was"]),
         ("refused, and it takes fewer", State.PINNED, least(3, 1, 2), 0, ["refused E66 QuotaTooLarge"], ["refused E66 QuotaTooLarge: a /b: it stays as it was"]))
     for name, state, demand, keeps, answer, expected in rows:
@@ -1108,11 +1107,31 @@ def rooms_said() -> None:
         check(f"{name}: what it wants by then", now.wanted, None if refused else held.wanted)
         check(f"{name}: what it asks for by then", now.demand, now.given if refused and not held.wanted else held.demand)
         check(f"{name}: what it is by then", now.state, State.SHARED if refused and state is State.WAITING else state)
+        check(f"{name}: nothing else is tried", not refused or isinstance(commands[-1], Say), True)
     ledger = ledger_of(one("a", State.PINNED, cpus=cpus("1-2"), **asking(2, wanted=3)))
     ledger.problems[Topic.ROOM, "a"] = Problem(Kind.KEEPS, "a", "a")
     commands, _ = done(room.try_one(room.Trial(Turn(ledger, Look(10.0)), {"a"}), ledger.containers["a"]), {"rebalance": ["plan total 0", "hold a 1-3", "pool 0,4-7", "end"]})
     now = ledger.containers["a"]
     check("there is room", (said(commands), now.demand.count, now.given.count, now.wanted, ledger.due, ledger.problems), (["update a /b"], 3, 3, None, True, {}))
+
+
+@case
+def rooms_refused() -> None:
+    """Whose new demand is refused for good still gets what it asked for before, of which it was given fewer CPUs, where there is room for it by now."""
+    refused, plan, short = ["refused E66 QuotaTooLarge: a /b: it stays as it was"], ["plan total 0", "hold a 1-3", "pool 0,4-7", "end"], ["short demand 9 allowed 1-7", "member a", "end"]
+    rows: Sequence[Tuple[str, Mapping[str, Any], int, Sequence[str], Sequence[str], int]] = (
+        ("there is room", asking(3, 2, 5), 0, plan, [*refused, "update a /b"], 3), ("there is none", asking(3, 2, 5), 0, short, refused, 2),
+        ("the pool keeps its own", asking(3, 2, 5), 6, plan, refused, 2), ("it has all of it", asking(2, 2, 5), 0, plan, refused, 2))
+    for name, demand, keeps, answer, expected, given in rows:
+        ledger = ledger_of(one("a", State.PINNED, cpus=cpus("1-2"), **demand), pool_least=keeps)
+        ledger.change("a", seen=dataclasses.replace(ledger.containers["a"].seen, config=demand["demand"].config))
+        trial = room.Trial(Turn(ledger, Look(10.0)), {"a"})
+        commands, _ = done(room.try_demand(trial, ledger.containers["a"], demand["wanted"], demand["wanted"]), {"update a 5": ["refused E66 QuotaTooLarge"], "rebalance": answer})
+        now, told = ledger.containers["a"], [each for each in commands if isinstance(each, Tell) and not each.trial]
+        check(name, (said(commands), now.given.count, [each.name for each in told], ledger.due), (expected, given, ["a"] if given == 3 else [], given == 3))
+        check(f"{name}: what it asks for by then", (now.demand, now.wanted, list(ledger.problems)), (demand["demand"], None, [(Topic.DEMAND, "a")]))
+        behind = commands[next(at for at, each in enumerate(commands) if isinstance(each, Say)) + 1:]
+        check(f"{name}: whether that is tried", bool(behind), name in ("there is room", "there is none"))
 
 
 @case
@@ -1261,7 +1280,8 @@ def said_of_fewer() -> None:
 def left_beside_each_other() -> None:
     """That there is no room, that what one wants is refused, and that it can't be told of are left beside each other, and each is said once."""
     ledger = ledger_of(one("a", State.PINNED, cpus=cpus("1"), **asking(2, 1)), one("w", State.WAITING, **asking(2, 0)))
-    turn, before, refusal = Turn(ledger, Look(10.0)), ledger.containers["a"].seen, {"update": ["refused E66 QuotaTooLarge"]}
+    turn, before = Turn(ledger, Look(10.0)), ledger.containers["a"].seen
+    refusal = {**{f"update a {count}": ["refused E66 QuotaTooLarge"] for count in (9, 10)}, "rebalance": ["short demand 9 allowed 1-7", "member a", "end"]}
 
     def left() -> List[str]:
         return sorted(f"{of} {problem.kind.value}" for (_, of), problem in ledger.problems.items())
