@@ -8,6 +8,7 @@ sys.path[:0] = [os.path.join(os.path.dirname(os.path.abspath(__file__)), "..")]
 import tree
 from tree import ROOT, read, say, write
 
+NARROW = f"{ROOT}/narrow"
 REFUSED = {errno.EEXIST: "Exists", errno.EBUSY: "HasChildren or HasProcesses"}
 
 
@@ -50,7 +51,12 @@ class Kernel:
         return write(f"{self.groups[int(serial)]}/cpuset.mems", "\n" if text == "-" else text)
 
     def spawn(self, serial):
-        self.pids[self.next] = tree.spawn(self.groups[int(serial)]), int(serial)
+        """A process, by way of a group of one CPU: on Linux 6.12 one that comes from a group with the same CPUs keeps those that are off."""
+        os.makedirs(NARROW, exist_ok=True)
+        assert not write(f"{NARROW}/cpuset.cpus", "0")
+        pid = tree.spawn(NARROW)
+        assert not write(f"{self.groups[int(serial)]}/cgroup.procs", str(pid))
+        self.pids[self.next] = pid, int(serial)
         self.next += 1
         return f"pid {self.next - 1}"
 
