@@ -13,9 +13,11 @@ from .script import Refused, read_text
 from .seen import Group, NoGroup
 
 CONFIG_BYTES = 1 << 20
+CPUS = "cpuset.cpus"
 LIMIT = "cpu.max"
 EACH = "/"
-READ = ("cpuset.cpus", "cpuset.mems", "cpuset.cpus.effective", LIMIT, "cgroup.events")
+ALLOWED = re.compile(r"^Cpus_allowed_list:\s*(\S+)$", re.MULTILINE)
+READ = (CPUS, "cpuset.mems", "cpuset.cpus.effective", LIMIT, "cgroup.events")
 ANON = ("inactive_anon", "active_anon", "unevictable")  # what of a group's memory is no page cache that can be freed; shared memory is in it
 
 
@@ -46,6 +48,18 @@ def set_in(text: Optional[str]) -> Optional[Cpus]:
         return None if text is None else read_list(text, "")
     except Refused:
         return None
+
+
+def may_run_elsewhere(path: str, cpus: Cpus) -> bool:
+    """Whether a thread of a group, or of one below it, may run on other CPUs than these."""
+    threads = (thread for folder, _, _ in os.walk(path) for thread in (read_file(f"{folder}/cgroup.threads") or "").split())
+    return any(allowed_to(f"/proc/{thread}") - cpus for thread in threads)
+
+
+def allowed_to(thread: str) -> Cpus:
+    """The CPUs on which the thread of this folder may run; none where it is gone."""
+    found = ALLOWED.search(read_file(f"{thread}/status") or "")
+    return set_in(found[1]) or NO_CPUS if found else NO_CPUS
 
 
 def limit_in(text: Optional[str]) -> Optional[Limit]:

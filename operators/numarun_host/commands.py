@@ -104,6 +104,17 @@ class Write:
 
 
 @dataclass(frozen=True)
+class Gather:
+    """Brings the threads of this very group onto the CPUs that it requests, by way of these others, if one of them, or of a group below, may run
+    elsewhere yet."""
+
+    path: str
+    inode: int
+    cpus: Cpus
+    others: Cpus
+
+
+@dataclass(frozen=True)
 class LookAtPartition:
     """Looks at the partition anew, and at who is below it where it has more than these CPUs."""
 
@@ -183,14 +194,14 @@ class RunPool:
     cpus: Cpus
 
 
-Command = Union[Start, Ask, Tell, OpenTrial, CloseTrial, Link, Unlink, Drop, Write, LookAtPartition, MakeGroup, SetLimit, SaveTaken, Say,
-                KeepCertificate, LeaveFigures, LeaveState, RunPool]
+Command = Union[Start, Ask, Tell, OpenTrial, CloseTrial, Link, Unlink, Drop, Write, Gather, LookAtPartition, MakeGroup, SetLimit, SaveTaken,
+                Say, KeepCertificate, LeaveFigures, LeaveState, RunPool]
 
 
 @dataclass(frozen=True)
 class Answer:
     """The lines of numarun's answer, what it said on standard error, why the system refused what was to be done, whether the agent is told
-    to end, whether nothing was done, as what was to be replaced is not there any more, what a look at the partition found, and whether it is to end
+    to end, whether nothing was done, as what was to be replaced is not there any more, or as nothing was to be done, what a look at the partition found, and whether it is to end
     without another write."""
 
     lines: Tuple[str, ...] = ()

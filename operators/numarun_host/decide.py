@@ -8,6 +8,7 @@ from typing import Dict, List, Optional, Sequence, Set, Tuple, Union
 from .changes import end_those_gone, follow_all, keep_lists, mend_all, undo_late_writes
 from .commands import Ask, Command, LeaveFigures, LeaveState, Level, SaveTaken, Say, Start, Steps
 from .cpus import Cpus, print_list
+from .gathering import gather_all
 from .ledger import Kind, Ledger, State, Topic, report, say_unsaid
 from .lifting import lift_all
 from .machine import Machine
@@ -63,6 +64,7 @@ def work_through(ledger: Ledger, look: Look) -> Steps[None]:
     else:
         happened = yield from tell_events(turn)
     yield from see_all(turn)
+    yield from gather_all(turn)
     ended = yield from end_those_gone(turn)
     yield from mend_all(turn)
     followed = yield from follow_all(turn)
@@ -229,6 +231,7 @@ def tell_event(ledger: Ledger, event: str) -> Steps[None]:
     if reply.first == "ok":
         ledger.switched[int(cpu)] = kind
         ledger.running = ledger.running | {int(cpu)} if kind == "online" else ledger.running - {int(cpu)}
+        ledger.came = ledger.came | {int(cpu)} if kind == "online" else ledger.came - {int(cpu)}
     else:
         ledger.wrong = True
 
@@ -272,6 +275,7 @@ def start(turn: Turn, reserved: Cpus) -> Steps[bool]:
         ledger.before = {name: (container.seen.group.path, container.state.is_pinned) for name, container in ledger.containers.items()}
         ledger.due = True
     ledger.reserved, ledger.running, ledger.shown = reserved, look.online.running, look.online.running | reserved
+    ledger.came = ledger.running
     ledger.known = frozenset(ledger.taken)
     ledger.containers, ledger.refused, ledger.blocking, ledger.switched, ledger.pauses = {}, {}, {}, {}, {}
     ledger.pool = ledger.tried = None

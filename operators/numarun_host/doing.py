@@ -13,9 +13,9 @@ import sys
 import time
 from typing import Callable, Dict, List, Optional, Tuple, Type
 
-from .cgroups import LIMIT, limit_in, read_file
-from .commands import (Answer, Ask, CloseTrial, Command, Drop, KeepCertificate, LeaveFigures, LeaveState, Link, LookAtPartition, MakeGroup,
-                       OpenTrial, RunPool, SaveTaken, Say, SetLimit, Start, Steps, T, Tell, Unlink, Verb, Write)
+from .cgroups import CPUS, LIMIT, limit_in, may_run_elsewhere, read_file, set_in
+from .commands import (Answer, Ask, CloseTrial, Command, Drop, Gather, KeepCertificate, LeaveFigures, LeaveState, Link, LookAtPartition,
+                       MakeGroup, OpenTrial, RunPool, SaveTaken, Say, SetLimit, Start, Steps, T, Tell, Unlink, Verb, Write)
 from .cpus import NO_CPUS, Cpus, print_list
 from .links import CPUS_IN_EFFECT, NODES_IN_EFFECT, Links
 from .log import say
@@ -24,7 +24,7 @@ from .partition_files import PartitionFiles
 from .program import Run
 from .records import LAST_STATE, Certificates, leave_figures, leave_state
 from .script import Refused
-from .taken import Record, write_file, write_limit
+from .taken import Record, inode_of, write_file, write_limit
 
 EFFECTIVE_NOTE = re.compile(r"\S+/cpuset\.cpus\.effective: ")  # the agent compares these itself
 POOL_SECONDS = 30  # that --pool's command has
@@ -122,8 +122,8 @@ class Hands:
         self.given_up: Cpus = NO_CPUS  # that the machine file lacks
         self.ways: Dict[Type[object], Callable[..., Answer]] = {
             Start: self.start, Ask: self.ask, Tell: self.tell, OpenTrial: self.open_trial, CloseTrial: self.close_trial, Link: self.link,
-            Unlink: self.unlink, Drop: self.drop, Write: self.write, SetLimit: self.set_limit, SaveTaken: self.save_taken, Say: self.say,
-            KeepCertificate: self.keep_certificate, LeaveFigures: self.leave_figures, LeaveState: self.leave_state,
+            Unlink: self.unlink, Drop: self.drop, Write: self.write, Gather: self.gather, SetLimit: self.set_limit,
+            SaveTaken: self.save_taken, Say: self.say, KeepCertificate: self.keep_certificate, LeaveFigures: self.leave_figures, LeaveState: self.leave_state,
             RunPool: self.run_pool, LookAtPartition: self.look_at_partition, MakeGroup: self.make_group}
 
     def do(self, command: Command) -> Answer:
@@ -219,6 +219,12 @@ class Hands:
 
     def write(self, command: Write) -> Answer:
         return Answer(why=write_file(os.path.join(command.path, command.file), command.text))
+
+    def gather(self, command: Gather) -> Answer:
+        file = os.path.join(command.path, CPUS)
+        if inode_of(command.path) != command.inode or set_in(read_file(file)) != command.cpus or not may_run_elsewhere(command.path, command.cpus):
+            return Answer(stale=True)
+        return Answer(why=write_file(file, print_list(command.others)) or write_file(file, print_list(command.cpus)))
 
     def look_at_partition(self, command: LookAtPartition) -> Answer:
         return Answer(partition=self.partition.sight(command.cpus) if self.partition else None)

@@ -129,6 +129,7 @@ class Topic(Enum):
     OUTSIDE = "outside"      # of one that was told of too, which has ended by that
     DRIFT = "drift"
     SQUEEZED = "squeezed"
+    THREADS = "threads"      # whether its threads run on its CPUs alone
     LIMIT = "limit"
     PARTITION = "partition"
     RESIZE = "resize"
@@ -184,7 +185,7 @@ class Problem:
 
 Key = Tuple[Topic, str]
 CONTAINER_PAUSES = ("container", "limit")
-CONTAINER_TOPICS = (Topic.CONTAINER, Topic.DEMAND, Topic.ROOM, Topic.STAYS, Topic.DRIFT, Topic.SQUEEZED, Topic.LIMIT)
+CONTAINER_TOPICS = (Topic.CONTAINER, Topic.DEMAND, Topic.ROOM, Topic.STAYS, Topic.DRIFT, Topic.SQUEEZED, Topic.THREADS, Topic.LIMIT)
 
 
 @dataclass(frozen=True)
@@ -228,6 +229,7 @@ class Ledger:
     reserved: Cpus = NO_CPUS
     running: Cpus = NO_CPUS  # the CPUs that run, as numarun was told
     shown: Cpus = NO_CPUS    # those that were there at the last look, reserved ones among them
+    came: Cpus = NO_CPUS     # those on which threads may run whose groups do not request them, as they were off before
     switched: Dict[int, str] = field(default_factory=dict)  # `offline` or `online`, by the CPU, as it was told last
     containers: Dict[str, Container] = field(default_factory=dict)  # by id, in the order in which numarun was told of them
     problems: Dict[Key, Problem] = field(default_factory=dict)

@@ -11,7 +11,7 @@ from dataclasses import dataclass, field
 from functools import partial
 from typing import Callable, Dict, Iterator, List, Mapping, Optional, Tuple
 
-from .cgroups import populated_in, read_file, set_in
+from .cgroups import allowed_to, populated_in, read_file, set_in
 from .commands import Answer, LookAtPartition, MakeGroup, Steps, Write
 from .configs import parse_text
 from .cpus import NO_CPUS, Cpus, print_list
@@ -194,14 +194,9 @@ def seen_loose(root: str, cpus: Cpus) -> Iterator[Loose]:
         stat = read_file(f"/proc/{pid}/stat")
         if not stat or int(stat.rpartition(")")[2].split()[6]) & KERNEL_THREAD:
             continue
-        allowed = NO_CPUS.union(*(allowed_of(thread) for thread in children(f"/proc/{pid}/task")))
+        allowed = NO_CPUS.union(*(allowed_to(thread) for thread in children(f"/proc/{pid}/task")))
         if allowed & cpus:
             yield Loose(int(pid), stat.partition("(")[2].rpartition(")")[0], allowed & cpus)
-
-
-def allowed_of(thread: str) -> Cpus:
-    fields = dict(line.partition(":")[::2] for line in (read_file(f"{thread}/status") or "").splitlines())
-    return set_in(fields.get("Cpus_allowed_list", "").strip()) or NO_CPUS
 
 
 # It is made.

@@ -26,7 +26,7 @@ BY_CHANCE = "partitions agent calls chance"  # those that read SEED, but for the
 SEEDS = (1, 2, 3)
 # Those that do the same by each seed. Some stand in two machines, so that they follow others there.
 WITHOUT_CHANCE = ("partition_kills", "docker containerd limits", "walk podman updates runc crun", "partition_page", "cores",
-                  "refused killed gone strangers slices limits updates direct")
+                  "refused killed gone came strangers slices limits updates direct")
 SECONDS = "7200"  # that a machine has
 
 

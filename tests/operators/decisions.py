@@ -151,7 +151,7 @@ def begun_anew(agent: Agent) -> Agent:
     world = agent.world
     world.release_limits()
     for place in world.places.values():
-        place.cpus = place.cpus if place.inode % 4 == 0 else frozenset()
+        world.set_cpus(place, place.cpus if place.inode % 4 == 0 else frozenset())
     world.links.clear()
     world.taken = {}
     return Agent(world)

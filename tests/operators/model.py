@@ -8,12 +8,12 @@ import dataclasses
 from dataclasses import dataclass, field
 from typing import Dict, Iterator, List, Optional, Set, Tuple, Union
 
-from numarun_host.commands import (NAMELESS, Answer, Ask, CloseTrial, Command, Drop, Level, Link, OpenTrial, SaveTaken, Say, SetLimit, Start, Steps,
+from numarun_host.commands import (NAMELESS, Answer, Ask, CloseTrial, Command, Drop, Gather, Level, Link, OpenTrial, SaveTaken, Say, SetLimit, Start, Steps,
                                    Taken, Tell, Unlink, Verb, Write)
 from numarun_host.configs import Limit, quota_of
 from numarun_host.cpus import NO_CPUS, Cpus
 from numarun_host.decide import decide
-from numarun_host.ledger import Ledger, Settings
+from numarun_host.ledger import Ledger, Settings, Topic
 from numarun_host.machine import Machine
 from numarun_host.seen import Found, Group, Look, Missing, NoGroup, Online, Told
 
@@ -60,6 +60,7 @@ class Place:
     inode: int
     cpus: Cpus = frozenset()
     populated: bool = True
+    strays: Cpus = frozenset()  # CPUs besides, on which a thread may run if they are there
     shared: bool = False  # whether it was written, or told of, last as one that asks for none of its own, so that nobody keeps others off
 
 
@@ -319,8 +320,37 @@ class World:
         if path in self.places:
             self.check(path, cpus, shared)
             place = self.places[path]
-            place.cpus, place.shared, self.seen[path] = cpus, shared, (place.inode, cpus)
+            self.set_cpus(place, cpus)
+            place.shared, self.seen[path] = shared, (place.inode, cpus)
         return True
+
+    def effective(self, place: Place) -> Cpus:
+        return place.cpus & self.online or self.online
+
+    def set_cpus(self, place: Place, cpus: Cpus) -> None:
+        """The kernel brings threads onto a group's CPUs where it gets others."""
+        before = self.effective(place)
+        place.cpus = cpus
+        place.strays = place.strays if self.effective(place) == before else frozenset()
+
+    def set_online(self, online: Cpus) -> None:
+        before = {path: self.effective(place) for path, place in self.places.items()}
+        self.online = online
+        for path, place in self.places.items():
+            place.strays = place.strays if self.effective(place) == before[path] else frozenset()
+
+    def gather(self, command: Gather) -> Answer:
+        place = self.places.get(command.path)
+        if place is None or place.inode != command.inode or place.cpus != command.cpus or not place.strays:
+            return Answer(stale=True)
+        if not command.others & self.online or not command.others < command.cpus:
+            self.wrong.append(f"{command.path} is gathered on {shown(command.others)}")
+        for cpus in (command.others, command.cpus):
+            if self.read_only:
+                self.read_only -= 1
+                return Answer(why=f"{command.path}/cpuset.cpus: Read-only file system")
+            self.set_cpus(place, cpus)
+        return Answer()
 
     def end_processes(self, path: Optional[str]) -> None:
         if path in self.places and self.places[path].populated:
@@ -405,9 +435,14 @@ class World:
             config = self.config(name)
             has = read(config["linux"]["resources"]["cpu"].get("cpus", ""))  # type: ignore[index]
             has = has if self.choices.below(4) else read(("", "1-2", "3", "2,5")[self.choices.below(4)])
-            self.places[self.path(name)] = Place(self.count, has, shared=name in POOLED)
+            self.place(name, has)
             self.bundles[name] = Bundle(config, self.count)
             self.limit_first(config)
+
+    def place(self, name: str, cpus: Cpus) -> None:
+        """A group, into which a process is moved from one that has all CPUs; where that changes nothing, it may run on those that are off too."""
+        place = self.places[self.path(name)] = Place(self.count, cpus, shared=name in POOLED)
+        place.strays = self.present - self.online if self.effective(place) == self.online else frozenset()
 
     def go(self) -> None:
         name = self.chosen()
@@ -419,7 +454,7 @@ class World:
         name = self.chosen()
         if name in self.bundles:
             self.count += 1
-            self.places[self.path(name)] = Place(self.count, shared=name in POOLED)
+            self.place(name, frozenset())
             config = self.config(name)
             self.bundles[name] = Bundle(config if self.choices.below(2) else None, self.count)
             self.limit_first(config)
@@ -440,7 +475,7 @@ class World:
 
     def flap(self) -> None:
         cpu = 1 + self.choices.below(7)
-        self.online = self.online ^ {cpu}
+        self.set_online(self.online ^ {cpu})
 
     def fail(self) -> None:
         self.read_only = 1 + self.choices.below(3)
@@ -470,7 +505,7 @@ class World:
         """Somebody else's write."""
         place = self.places.get(self.path(self.chosen()))
         if place and place.cpus:
-            place.cpus = (RESERVED, RESERVED, read("1-2"), read("4"))[self.choices.below(4)]
+            self.set_cpus(place, (RESERVED, RESERVED, read("1-2"), read("4"))[self.choices.below(4)])
         self.drifted = {place.inode for place in self.places.values() if place.cpus == RESERVED}
 
     def limit_first(self, config: Dict[str, object]) -> None:
@@ -497,7 +532,8 @@ class World:
     def settle(self) -> None:
         """All that went wrong is right again."""
         self.happened += 1
-        self.hidden, self.read_only, self.starved, self.online = False, 0, 0, self.present
+        self.hidden, self.read_only, self.starved = False, 0, 0
+        self.set_online(self.present)
         for name, bundle in list(self.bundles.items()):
             if bundle.config is None or bundle.config == config_of(0, "90"):
                 self.count += 1
@@ -562,6 +598,7 @@ class Agent:
         self.tried: Dict[str, Cpus] = {}     # in the last look, what the last plan that was tried before gave to each
         self.denied: Set[str] = set()        # in the last look, who was refused
         self.is_short = self.is_disturbed = self.has_plan = False  # in the last look
+        self.pooled: Set[str] = set()        # the groups that were on the pool as it began
 
     def look(self, troubled: bool) -> None:
         self.lines = []
@@ -569,6 +606,7 @@ class Agent:
         self.is_short = self.is_disturbed = self.has_plan = False
         is_first = self.ledger.pool is None and not self.ledger.renewed
         found = self.world.look(self.ledger)
+        self.pooled = {path for path, place in self.world.places.items() if place.shared}
         if self.at_look != self.world.happened:  # what came in the midst of the last look is seen by this one
             self.known, self.at_look = set(), self.world.happened
         self.check_rest(found)
@@ -578,6 +616,7 @@ class Agent:
         finally:
             self.world.is_within = False
         self.check_strangers()
+        self.check_threads(found)
         if is_first and self.ledger.pool is not None and not self.is_short and not self.is_disturbed:
             self.check_beginnings()
 
@@ -614,6 +653,15 @@ class Agent:
         if names - self.ledger.strangers.keys():
             self.world.wrong.append(f"withheld, and the agent knows nothing of it: {names - self.ledger.strangers.keys()}")
 
+    def check_threads(self, found: Look) -> None:
+        """Behind each look nobody's thread may run on another one's own CPUs, of those that are there and were as the look began; but for groups that
+        can't be written."""
+        for name, row in self.program.rows.items() if self.program else ():
+            for path, place in self.world.places.items():
+                both = place.strays & row.cpus & found.online.running & self.world.online - RESERVED
+                if row.count is not None and path != self.world.links.get(name) and both and self.ledger.problem(Topic.THREADS, path[len(ROOT) + 1:]) is None:
+                    self.world.wrong.append(f"threads of {path} may run on {shown(both)}, which {name} has")
+
     def check_beginnings(self) -> None:
         """Behind the first plan of a run: who came, and has CPUs by it that nobody requested then, nor those of the plan that was tried, which may be
         another one, was never on the reserved CPUs alone."""
@@ -625,9 +673,9 @@ class Agent:
 
     def kept_off(self, row: Row, others: Dict[str, Cpus]) -> Cpus:
         """What others requested that keeps a container off: of one that asks for no CPUs of its own, only what is requested by who asks for some, or
-        was not told of."""
-        places = self.world.places
-        return NO_CPUS.union(*(cpus for path, cpus in others.items() if row.count is not None or path not in places or not places[path].shared))
+        did as the look began, or was not told of."""
+        pooled = {path for path, place in self.world.places.items() if place.shared} & self.pooled
+        return NO_CPUS.union(*(cpus for path, cpus in others.items() if row.count is not None or path not in pooled))
 
     def note_set_back(self, command: Tell, answer: str) -> None:
         """Notes who is told of on the reserved CPUs, but for those that request CPUs which are others', or whose config is refused as it is. If
@@ -672,6 +720,8 @@ class Agent:
             world.taken = dict(command.groups)
         elif isinstance(command, SetLimit):
             return world.set_limit(command)
+        elif isinstance(command, Gather):
+            return world.gather(command)
         elif isinstance(command, Write):
             return Answer(why=None if world.write(command.path, read(command.text)) else f"{command.path}: Read-only file system")
         return Answer()

@@ -39,9 +39,9 @@ import trial
 
 TOP = pathlib.Path(__file__).resolve().parents[2]
 PACKAGE = pathlib.Path("operators/numarun_host")
-DECIDE = ("beginnings", "changes", "configs", "decide", "homes", "ledger", "lifting", "newcomers", "partition", "partitioning", "placing", "plans", "pool", "reports",
+DECIDE = ("beginnings", "changes", "configs", "decide", "gathering", "homes", "ledger", "lifting", "newcomers", "partition", "partitioning", "placing", "plans", "pool", "reports",
           "room", "sightings", "slices", "strangers", "telling")
-CASES = ("decided", "parts", "strangers", "asked", "kept/at_rest", "kept/wakened", "kept/no_rest", "decisions/long", "decisions/short")
+CASES = ("decided", "parts", "strangers", "gathers", "asked", "kept/at_rest", "kept/wakened", "kept/no_rest", "decisions/long", "decisions/short")
 OF_PARTITIONS = "partition_steps", *(f"partitions/{case}" for case in ("said", "resized", "order", "loose", "made", "given_back", "refused", "decided_by_chance"))
 OWN = {"lifting": ("decided", "parts", "limits", "lifts/by_chance"), "partition": OF_PARTITIONS, "partitioning": OF_PARTITIONS}  # cases of modules that have others
 PATIENCE, TIMES = 10, 20  # a case that has not ended in so many seconds, and so many times those that it takes without a mutant, has seen it

@@ -14,7 +14,7 @@ from unittest import mock
 
 from partition_kernel import NOT_EXCLUSIVE, NO_SUCH, TOP, UNABLE, Eyes, Kernel, Killed, World, cpus
 from trial import EXAMPLES, case, check, long_case, scratch, text_of, written
-from numarun_host import partition, partition_files, partitioning
+from numarun_host import cgroups, partition, partition_files, partitioning
 from numarun_host.commands import Answer, LookAtPartition, MakeGroup, Say, Steps, Write
 from numarun_host.cpus import NO_CPUS, Cpus, print_list
 from numarun_host.ledger import Ledger, Settings
@@ -481,7 +481,7 @@ def loose_by_thread() -> None:
 
     def read(path: str) -> Optional[str]:
         return next(members) if path == "/c/cgroup.procs" else files.get(path)
-    with mock.patch.multiple(partition_files, read_file=read, children=lambda path: threads[int(path.split("/")[2])]):
+    with mock.patch.multiple(partition_files, read_file=read, children=lambda path: threads[int(path.split("/")[2])]), mock.patch.object(cgroups, "read_file", read):
         check("loose", list(partition_files.loose_in(TOP, cpus("2-4"))), [Loose(7, "a (b) c", cpus("3")), Loose(10, "a (b) c", cpus("2-4"))])
 
 
