@@ -201,8 +201,8 @@ Command = Union[Start, Ask, Tell, OpenTrial, CloseTrial, Link, Unlink, Drop, Wri
 @dataclass(frozen=True)
 class Answer:
     """The lines of numarun's answer, what it said on standard error, why the system refused what was to be done, whether the agent is told
-    to end, whether nothing was done, as what was to be replaced is not there any more, or as nothing was to be done, what a look at the partition found, and whether it is to end
-    without another write."""
+    to end, whether nothing was done, as what was to be replaced is not there any more, or as nothing was to be done, what a look at the partition
+    found, and whether it is to end without another write."""
 
     lines: Tuple[str, ...] = ()
     notes: Tuple[str, ...] = ()

@@ -123,8 +123,8 @@ class Hands:
         self.ways: Dict[Type[object], Callable[..., Answer]] = {
             Start: self.start, Ask: self.ask, Tell: self.tell, OpenTrial: self.open_trial, CloseTrial: self.close_trial, Link: self.link,
             Unlink: self.unlink, Drop: self.drop, Write: self.write, Gather: self.gather, SetLimit: self.set_limit,
-            SaveTaken: self.save_taken, Say: self.say, KeepCertificate: self.keep_certificate, LeaveFigures: self.leave_figures, LeaveState: self.leave_state,
-            RunPool: self.run_pool, LookAtPartition: self.look_at_partition, MakeGroup: self.make_group}
+            SaveTaken: self.save_taken, Say: self.say, KeepCertificate: self.keep_certificate, LeaveFigures: self.leave_figures,
+            LeaveState: self.leave_state, RunPool: self.run_pool, LookAtPartition: self.look_at_partition, MakeGroup: self.make_group}
 
     def do(self, command: Command) -> Answer:
         return self.ways[type(command)](command)

@@ -15,11 +15,11 @@ from .telling import Turn
 
 
 def gather_all(turn: Turn) -> Steps[None]:
-    """Gathers the threads of all groups that do not request what came, at a start of all that request some of the CPUs; what fails is tried again at
-    the next look."""
+    """Gathers the threads of all groups that do not request all CPUs that came, which at a start are all that are there. What fails is tried again at
+    the next look, as long as they are."""
     ledger = turn.ledger
     came, ledger.came = ledger.came, NO_CPUS
-    for name, sighting in turn.there.items() if came and ledger.has_tree else []:
+    for name, sighting in turn.there.items() if ledger.has_tree else []:
         group = sighting.group
         gather = gathered(turn, group) if came - group.cpus else None
         why = (yield gather).why if gather else None

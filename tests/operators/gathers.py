@@ -91,6 +91,7 @@ def who_is_gathered() -> None:
         check(f"{requests}, and {came} came", gathers(requests, came), (expected, "-", None))
     check("it fails", gathers("0-4", "5", "/t/a/cpuset.cpus: Read-only file system"), ([Gather("/t/a", 1, cpus("0-4"), cpus("0-3"))], "5", Kind.FAILED))
     check("and then not", gathers("0-4", "5", failed=True), ([Gather("/t/a", 1, cpus("0-4"), cpus("0-3"))], "-", None))
+    check("and then the CPU is off again", gathers("0-4", "", failed=True), ([], "-", None))
     ledger = ledger_of(container("a", State.SHARED))
     ledger.settings = dataclasses.replace(ledger.settings, root=None)
     ledger.came = cpus("5")
