@@ -33,7 +33,7 @@ def end(turn: Turn, container: Container) -> Steps[None]:
     ledger, name, seen = turn.ledger, container.name, container.seen
     yield from untell(ledger, name)
     yield from give_back_at_the_end(turn, container)
-    del ledger.containers[name]
+    ledger.remove(name)
     ledger.forget(name)
     turn.late = turn.late or turn.came_anew(seen.group)
     if not seen.told.is_system and not turn.came_anew(seen.group) and seen.group.path in ledger.taken:
@@ -184,7 +184,7 @@ def mend(turn: Turn, container: Container, sighting: Sighting) -> Steps[None]:
         if (Topic.DRIFT, name) not in ledger.unsaid:  # else it is said at the next look
             ledger.settle(Topic.DRIFT, name)
         return
-    del ledger.containers[name]
+    ledger.remove(name)
     yield from refuse(turn, name, dataclasses.replace(sighting, stamp=None), reply)
     yield from report(ledger, Topic.DRIFT, name, Kind.DRIFT, f"{ledger.title(name)}: that can't be written again")
 

@@ -299,6 +299,11 @@ class Ledger:
         self.containers[name] = container
         return container
 
+    def remove(self, name: str) -> None:
+        """Knows nothing of a container any more, so that others may get its CPUs."""
+        del self.containers[name]
+        self.due = True
+
     def problem(self, topic: Topic, of: str = "") -> Optional[Kind]:
         """What is left undone, if something is."""
         found = self.problems.get((topic, of))

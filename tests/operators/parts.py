@@ -738,6 +738,10 @@ def mending() -> None:
     ledger.put(held)
     ledger.pauses["container", "a"] = Pause(11.0, 1.0)
     check("in its pause", done(changes.mend(turn, held, seen))[0], [])
+    for name, answer, due in (("told of again", ["pid 1"], False), ("gone meanwhile: others get what it had", ["refused E50 KernelFault"], True)):
+        ledger = ledger_of(held)
+        done(changes.mend(Turn(ledger, Look(10.0)), held, seen), {"adopt": answer})
+        check(f"{name}: a plan is due", (ledger.due, "a" in ledger.containers), (due, not due))
 
 
 @case
