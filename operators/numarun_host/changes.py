@@ -85,6 +85,7 @@ def follow(turn: Turn, name: str, sighting: Sighting) -> Steps[bool]:
         ledger.settle(Topic.ROOM, name)
         return False
     ledger.change(name, wanted=demand)
+    ledger.settle(Topic.ROOM, name, Kind.KEEPS)
     return True
 
 

@@ -15,23 +15,25 @@ from .telling import Turn
 
 
 def gather_all(turn: Turn) -> Steps[None]:
-    """Gathers the threads of all groups that do not request all CPUs that came, which at a start are all that are there. What fails is tried again at
-    the next look, as long as they are."""
+    """Gathers the threads of each group that was not seen before, or has been seen and does not request all CPUs that came, which at a start are all
+    that are there. What fails is tried again at the next look."""
     ledger = turn.ledger
-    came, ledger.came = ledger.came, NO_CPUS
-    for name, sighting in turn.there.items() if ledger.has_tree else []:
-        group = sighting.group
-        gather = gathered(turn, group) if came - group.cpus else None
+    here = {name: sighting.group for name, sighting in turn.there.items()} if ledger.has_tree else {}
+    known = {group.inode for group in here.values() if group.inode in ledger.gathered and not ledger.came - group.cpus}
+    ledger.came, ledger.gathered = NO_CPUS, frozenset(group.inode for group in here.values())
+    for name, group in here.items():
+        gather = None if group.inode in known else gathered(turn, group)
         why = (yield gather).why if gather else None
         if why:
-            ledger.came = came
+            ledger.gathered -= {group.inode}
             yield from report(ledger, Topic.THREADS, name, Kind.FAILED, why)
         else:
             ledger.settle(Topic.THREADS, name)
 
 
 def gathered(turn: Turn, group: Group) -> Optional[Gather]:
-    """How the threads of a group are gathered: by way of all of its CPUs but the last one. One that has no other CPU there is left alone, since all
-    others had to be off when a process came into it."""
-    there = group.cpus & (turn.ledger.running | turn.ledger.reserved)
-    return Gather(group.path, group.inode, group.cpus, there - {max(there)}) if len(there) > 1 else None
+    """How the threads of a group are gathered: by way of all of its CPUs but the last one. One that requests all that are there has no others. One that
+    has a single one there is left alone, since all others had to be off when a process came into it."""
+    all_there = turn.ledger.running | turn.ledger.reserved
+    there = group.cpus & all_there
+    return Gather(group.path, group.inode, group.cpus, there - {max(there)}) if len(there) > 1 and there != all_there else None

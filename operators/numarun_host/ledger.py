@@ -230,6 +230,7 @@ class Ledger:
     running: Cpus = NO_CPUS  # the CPUs that run, as numarun was told
     shown: Cpus = NO_CPUS    # those that were there at the last look, reserved ones among them
     came: Cpus = NO_CPUS     # those that came, and on which threads of groups that do not request them may run yet
+    gathered: FrozenSet[int] = frozenset()  # the inodes of the groups whose threads were seen to run on their own CPUs alone
     switched: Dict[int, str] = field(default_factory=dict)  # `offline` or `online`, by the CPU, as it was told last
     containers: Dict[str, Container] = field(default_factory=dict)  # by id, in the order in which numarun was told of them
     problems: Dict[Key, Problem] = field(default_factory=dict)

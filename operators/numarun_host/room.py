@@ -9,7 +9,7 @@ from typing import Dict, List, Optional, Set, Tuple
 from .commands import Ask, CloseTrial, KeepCertificate, OpenTrial, Steps, Tell, Verb
 from .configs import Demand, fewer, least_of, shared
 from .cpus import NO_CPUS, Cpus, counted, read_list
-from .ledger import FULL, Container, Kind, Ledger, Sighting, State, Topic, report
+from .ledger import FULL, Container, Kind, Ledger, Problem, Sighting, State, Topic, report
 from .placing import demand_with_home, say_home
 from .strangers import withheld
 from .telling import Reply, Turn, ask, report_failure, tell_update
@@ -207,13 +207,17 @@ def try_one(trial: Trial, container: Container) -> Steps[None]:
 
 
 def say_no_room(turn: Turn, container: Container, why: str) -> Steps[None]:
-    """Why one waits, or keeps what it has."""
+    """Why one waits, or keeps what it has; that is said once of what it wants, also where there are other reasons by then."""
+    ledger, key = turn.ledger, (Topic.ROOM, container.name)
     if container.state is State.WAITING:
         yield from say_waits(turn, container.name, why)
     elif container.wanted:
-        left = f"it stays at {counted(container.given.count or 0)} until there is room"
         settle_refused(turn, container)
-        yield from report(turn.ledger, Topic.ROOM, container.name, Kind.KEEPS, f"{turn.ledger.title(container.name)}: {why}: {left}")
+        text = f"{ledger.title(container.name)}: {why}: it stays at {counted(container.given.count or 0)} until there is room"
+        if ledger.problem(*key) is Kind.KEEPS:
+            ledger.problems[key] = Problem(Kind.KEEPS, container.name, text)
+        else:
+            yield from report(ledger, *key, Kind.KEEPS, text)
 
 
 def settle_refused(turn: Turn, container: Container) -> None:

@@ -15,7 +15,7 @@ from trial import case, check, scratch
 from numarun_host import gathering
 from numarun_host.cgroups import may_run_elsewhere
 from numarun_host.commands import Answer, Command, Gather, Say
-from numarun_host.cpus import print_list
+from numarun_host.cpus import NO_CPUS, print_list
 from numarun_host.doing import Ending, Hands, PoolCommand
 from numarun_host.ledger import Kind, Problem, State, Topic
 from numarun_host.log import logger
@@ -76,22 +76,28 @@ def writes() -> None:
 
 @case
 def who_is_gathered() -> None:
-    """Each that requests CPUs, two at least that are there, and not all of those that came; once, unless that fails."""
-    def gathers(requests: str, came: str, why: Optional[str] = None, failed: bool = False) -> Tuple[List[Command], str, Optional[Kind]]:
+    """Each that requests CPUs, two at least that are there, and not all of them: where it was not seen before, or a CPU came that it does not request;
+    once, unless that fails."""
+    def gathers(requests: str, came: str = "", why: Optional[str] = None, failed: bool = False, known: bool = True) -> Tuple[List[Command], bool, Optional[Kind]]:
         ledger = ledger_of(one("a", State.SHARED, cpus=cpus(requests)))
         ledger.problems = {(Topic.THREADS, "a"): Problem(Kind.FAILED, "a", "why")} if failed else {}
         ledger.running, ledger.reserved, ledger.came = cpus("1-5"), cpus("0"), cpus(came)
+        ledger.gathered = frozenset({1, 7} if known else {7})
         turn = Turn(ledger, Look(0.0), there={"a": sighting("/t/a", cpus=cpus(requests))})
         commands, _ = done(gathering.gather_all(turn), faults={Gather: why} if why else {})
-        return [command for command in commands if not isinstance(command, Say)], print_list(ledger.came), ledger.problem(Topic.THREADS, "a")
+        check("what came is no news any more, and of one that is gone nothing is known", (ledger.came, 7 in ledger.gathered), (NO_CPUS, False))
+        return [command for command in commands if not isinstance(command, Say)], 1 in ledger.gathered, ledger.problem(Topic.THREADS, "a")
 
+    gather = [Gather("/t/a", 1, cpus("0-4"), cpus("0-3"))]
     for requests, came, others in (("0-4", "5", "0-3"), ("0,4", "5", "0"), ("2-3,6-7", "5", "2"), ("0-5", "5", ""), ("0-4", "", ""), ("", "5", ""), ("3", "5", ""), ("3,7", "5", ""),
-                                   ("0-4", "3-5", "0-3")):
+                                   ("0-4", "3-5", "0-3"), ("0-4", "3-4", "")):
         expected: List[Command] = [Gather("/t/a", 1, cpus(requests), cpus(others))] if others else []
-        check(f"{requests}, and {came} came", gathers(requests, came), (expected, "-", None))
-    check("it fails", gathers("0-4", "5", "/t/a/cpuset.cpus: Read-only file system"), ([Gather("/t/a", 1, cpus("0-4"), cpus("0-3"))], "5", Kind.FAILED))
-    check("and then not", gathers("0-4", "5", failed=True), ([Gather("/t/a", 1, cpus("0-4"), cpus("0-3"))], "-", None))
-    check("and then the CPU is off again", gathers("0-4", "", failed=True), ([], "-", None))
+        check(f"{requests}, and {came} came", gathers(requests, came), (expected, True, None))
+    check("one that was not seen before", gathers("0-4", known=False), (gather, True, None))
+    check("one that requests all", gathers("0-5", known=False), ([], True, None))
+    check("it fails", gathers("0-4", "5", "/t/a/cpuset.cpus: Read-only file system"), (gather, False, Kind.FAILED))
+    check("and then not", gathers("0-4", failed=True, known=False), (gather, True, None))
+    check("and then it requests all", gathers("0-5", failed=True, known=False), ([], True, None))
     ledger = ledger_of(container("a", State.SHARED))
     ledger.settings = dataclasses.replace(ledger.settings, root=None)
     ledger.came = cpus("5")
@@ -129,3 +135,25 @@ def over_looks() -> None:
         agent = Agent(world) if restarts else agent
         looks(agent)
         check("once it came", (place.cpus, place.strays, world.places["/tree/b"].cpus, world.wrong), (world.present - {5}, frozenset(), frozenset({5}), []))
+
+
+@case
+def of_a_newcomer() -> None:
+    """A CPU is one's own only once the threads of a container are off it whose config could not be read while the CPU was off, and which requests all others."""
+    world = World(MACHINE, Choices(b""))
+    world.set_online(world.present - {5})
+    come(world, "s", config_of(0))
+    world.places["/tree/s"].strays, world.places["/tree/s"].cpus = frozenset({5}), world.present - {5}
+    world.bundles["s"] = Bundle(None, 1)
+    agent = Agent(world)
+    looks(agent)
+    world.happened += 1
+    world.set_online(world.present)
+    come(world, "b", config_of(1, "5"))
+    looks(agent)
+    place = world.places["/tree/s"]
+    check("before it is told of", (place.strays, world.places["/tree/b"].cpus), (frozenset({5}), frozenset({5})))
+    world.happened += 1
+    world.bundles["s"] = Bundle(config_of(0), 9)
+    looks(agent)
+    check("behind that", (place.cpus, place.strays, world.wrong), (world.present - {5}, frozenset(), []))

@@ -654,12 +654,14 @@ class Agent:
             self.world.wrong.append(f"withheld, and the agent knows nothing of it: {names - self.ledger.strangers.keys()}")
 
     def check_threads(self, found: Look) -> None:
-        """Behind each look nobody's thread may run on another one's own CPUs, of those that are there and were as the look began; but for groups that
-        can't be written."""
+        """Behind each look no thread of a container that the look found may run on another one's own CPUs, of those that are there and were as the look
+        began; but for groups that can't be written."""
+        seen = {told.group.path: name for name, told in found.told.items() if isinstance(told, Found)
+                and told.group.path in self.world.places and told.group.inode == self.world.places[told.group.path].inode}
         for name, row in self.program.rows.items() if self.program else ():
             for path, place in self.world.places.items():
                 both = place.strays & row.cpus & found.online.running & self.world.online - RESERVED
-                if row.count is not None and path != self.world.links.get(name) and both and self.ledger.problem(Topic.THREADS, path[len(ROOT) + 1:]) is None:
+                if row.count is not None and path in seen and path != self.world.links.get(name) and both and self.ledger.problem(Topic.THREADS, seen[path]) is None:
                     self.world.wrong.append(f"threads of {path} may run on {shown(both)}, which {name} has")
 
     def check_beginnings(self) -> None:

@@ -1139,6 +1139,25 @@ def rooms_refused() -> None:
 
 
 @case
+def kept_as_it_is() -> None:
+    """Why one keeps what it has is said once of what it wants, whatever keeps it from that later; of what it wants by then it is said anew."""
+    held = one("a", State.PINNED, cpus=cpus("1-2"), **asking(2, 2, 3))
+    ledger = ledger_of(held)
+    lines: List[str] = []
+    for why in ("no room", "no room yet"):
+        turn = Turn(ledger, Look(0.0))
+        lines += said(done(room.say_no_room(turn, held, why))[0])
+    check("said", lines, ["keeps a: no room: it stays at 2 CPUs until there is room"])
+    check("and known by then", ledger.problems[Topic.ROOM, "a"].text, "a: no room yet: it stays at 2 CPUs until there is room")
+    for count, kind in ((3, Kind.KEEPS), (4, None)):
+        config = asks(count)
+        ledger.change("a", seen=dataclasses.replace(held.seen, config=asks(3)))
+        sighted = dataclasses.replace(held.seen, config=config, stamp=("another",))
+        done(changes.follow(Turn(ledger, Look(10.0)), "a", sighted))
+        check(f"it wants {count}", (ledger.problem(Topic.ROOM, "a"), (ledger.containers["a"].wanted or held.demand).count), (kind, count))
+
+
+@case
 def most_of_it() -> None:
     """From what one wants down to what it takes, or has already, the most for which there is a plan."""
     def tried(held: Any, wanted: Demand, *several: Sequence[str], members: Mapping[str, object] = EIGHT) -> Tuple[List[Optional[int]], Optional[int], Optional[str]]:
