@@ -21,12 +21,7 @@ use std::io;
 use std::io::Write;
 
 // The offer at a place: no set is made of its ranges.
-fn add_offer<W: Write>(
-    offers: &Offers,
-    at: usize,
-    buffer: &mut Buffer,
-    w: &mut W,
-) -> io::Result<()>
+fn add_offer<W: Write>(offers: &Offers, at: usize, buffer: &mut Buffer, w: &mut W) -> io::Result<()>
     requires { at < length offers.now }
     ensures written { (d : Offer) → Gathers (W.contents w.old) (W.contents w.new) buffer.old buffer.new result
         (offer_text (slice_index_or offers.now at d)) }
