@@ -324,7 +324,8 @@ def no_work() -> None:
         time.sleep(0.1)
     agent.end()
     tries = int(figure(site, "numarun_refused_writes_total"))
-    most = 3 + int(math.log2((time.monotonic() - began) / 0.1 + 1))  # each pause is twice the one before, from 0.1 s on; at first there are two ways
+    # Each pause is twice the one before, from 0.1 s on. Until the first plan there are two ways, which a busy machine has at two looks.
+    most = 5 + int(math.log2((time.monotonic() - began) / 0.1 + 1))
     check(f"{tries} tries in some seconds, of at most {most}, and plans", (2 <= tries <= most, figure(site, "numarun_plans_total")), (True, "1"))
 
 
