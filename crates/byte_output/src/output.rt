@@ -13,6 +13,8 @@ use std::io::{ErrorKind, Write};
 ///
 /// # Errors
 /// The error of the first write that fails, or `WriteZero` where a write takes no byte.
+// Inlined: of a byte or two that a writer has room for nothing but their copy is left.
+#[inline(always)]
 pub fn put<W: Write>(bytes: &[u8], w: &mut W) -> io::Result<()>
     ensures { Writes (W.contents w.old) (W.contents w.new) result bytes.now }
 {
@@ -44,12 +46,14 @@ pub fn put_all<W: Write>(parts: &[&[u8]], w: &mut W) -> io::Result<()>
 ///
 /// # Errors
 /// As [`put`]: where it fails, a prefix of what the three make together went out.
+#[inline(always)]
 pub fn put_number<W: Write>(before: &[u8], number: u64, after: &[u8], w: &mut W) -> io::Result<()>
     ensures { Writes (W.contents w.old) (W.contents w.new) result (before.now ++ (decimal number ++ after.now)) }
 {
     let mut digits = Buffer::new();
-    let number = digits.format(number).as_bytes();
-    put_all(&[before, number, after], w)
+    put(before, w)?;
+    put(digits.format(number).as_bytes(), w)?;
+    put(after, w)
 }
 
 /// Writes a word behind a space.

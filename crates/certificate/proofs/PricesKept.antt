@@ -33,6 +33,11 @@ amount_at sets k w o lt weighs =
     ∙ ap (λ (p : Price). p.amount)
     (sym (get_or-map price_of sets k d) ∙ get_or_default (prices_of sets) k (price_of d) o (omega (arith, length-prices_of sets)))
 
+pub cpus_at : (sets : List (ℕ × Ids)) (k : ℕ) (e : ℕ × Ids) (o : Price) → k < length sets → (get_or sets k e).1 ≡ (get_or (prices_of sets) k o).cpus
+cpus_at sets k e o lt =
+    ap (λ (p : Price). p.cpus)
+    (sym (get_or-map price_of sets k e) ∙ get_or_default (prices_of sets) k (price_of e) o (omega (arith, length-prices_of sets)))
+
 pub push_is : (sets : List (ℕ × Ids)) (o : Price) → prices_of (sets ++ (o.amount, o.cpus) ∷ []) ≡ prices_of sets ++ o ∷ []
 push_is sets o = map-append price_of sets ((o.amount, o.cpus) ∷ [])
 

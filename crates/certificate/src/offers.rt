@@ -2,10 +2,11 @@ ghost use Rattle.std.specs.Prelude.{◌≡◌, ◌↔◌, ℕ, ◌+◌, ◌<◌,
 ghost use Rattle.std.specs.Prelude.{length, slice_index_or};
 ghost use Rattle.std.specs.FinSet as set;
 ghost use Rattle.certificate.specs.Weight.{weight_in};
+ghost use Rattle.cpu_set.specs.Members.{InRange};
 ghost use Rattle.cpu_set.specs.Ranges.{in_ranges};
 ghost use Rattle.certificate.specs.Limits.{are_apart};
 ghost use Rattle.certificate.specs.RisingOffers.{AreRising};
-ghost use Rattle.tagged_sets.specs.Tagged.{IsOfSet, set_of_ranges};
+ghost use Rattle.tagged_sets.specs.Tagged.{IsOfSet, ranges_of_set, set_of_ranges};
 
 use crate::Offer;
 use crate::set_checks::are_apart;
@@ -178,9 +179,12 @@ impl Offers {
     /// The CPUs of the offer at a place, as ranges from a first CPU up to a last.
     pub fn ranges(&self, at: usize) -> &[(u16, u16)]
         requires { at < length self.now }
+        // They rise, and each is as long as possible.
+        ensures ranges { (d : Offer) → result.now ≡ ranges_of_set (slice_index_or self.now at d).cpus }
         ensures members { (d : Offer) (cpu : ℕ) → in_ranges result.now cpu
             ≡ set.contains (slice_index_or self.now at d).cpus cpu }
         ensures below { All (λ r. r.1 < CPU_LIMIT) result.now }
+        ensures in_range { (d : Offer) → InRange (slice_index_or self.now at d).cpus }
     {
         self.sets.ranges(at)
     }

@@ -1,7 +1,9 @@
 ghost use Rattle.std.specs.Prelude.{◌≡◌, ℕ, ◌<◌, ◌++◌, [], ◌∷◌, All, OnOk, OnErr, length, slice_index_or};
 ghost use Rattle.std.specs.FinSet as set;
+ghost use Rattle.cpu_set.specs.Members.{InRange};
 ghost use Rattle.cpu_set.specs.Ranges.{in_ranges};
 ghost use Rattle.certificate.specs.Limits.{are_apart};
+ghost use Rattle.tagged_sets.specs.Tagged.{ranges_of_set};
 
 use crate::set_checks::are_apart;
 use cpu_set::{CPU_LIMIT, IdSet};
@@ -110,9 +112,12 @@ impl PriceList {
     /// The CPUs of the price at a place, as ranges from a first CPU up to a last.
     pub fn ranges(&self, at: usize) -> &[(u16, u16)]
         requires { at < length self.now }
+        // They rise, and each is as long as possible.
+        ensures ranges { (d : Price) → result.now ≡ ranges_of_set (slice_index_or self.now at d).cpus }
         ensures members { (d : Price) (cpu : ℕ) → in_ranges result.now cpu
             ≡ set.contains (slice_index_or self.now at d).cpus cpu }
         ensures below { All (λ r. r.1 < CPU_LIMIT) result.now }
+        ensures in_range { (d : Price) → InRange (slice_index_or self.now at d).cpus }
     {
         self.sets.ranges(at)
     }

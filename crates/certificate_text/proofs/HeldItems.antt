@@ -16,6 +16,15 @@ hold_more {X} P xs i x within is before own k d lt = elim (cases_lt k i) [
       subst (λ j. P (get_or xs j d)) same (subst P (is ∙ get_or_default xs i x d within) own))
 ]
 
+-- it holds of the element at a place too
+pub hold_at : {X : Type 0} (P : X → Type 0) (xs : List X) (i : ℕ) → ((d : X) → P (get_or xs i d)) → HoldUpTo P xs i → HoldUpTo P xs (i + 1)
+hold_at P xs i own before k d lt = elim (cases_lt k i) [
+  | inl earlier ↦ before k d earlier
+  | inr later ↦
+      (let same : i ≡ k = omega (arith, lt, later) in
+      subst (λ j. P (get_or xs j d)) same (own d))
+]
+
 pub on_ok : {A E : Type 0} (P : Type 0) (r : Result A E) → P → OnOk r P
 on_ok P (Ok a) p = p
 on_ok P (Err e) p = tt

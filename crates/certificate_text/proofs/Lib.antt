@@ -26,3 +26,4 @@ pub mod Totals
 pub mod ProblemRows
 pub mod ProblemLines
 pub mod ProblemsWritten
+pub mod RangesWritten

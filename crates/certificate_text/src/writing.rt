@@ -1,9 +1,11 @@
 //! A certificate to a writer.
-ghost use Rattle.std.specs.Prelude.{◌≡◌, ◌<◌, ◌^◌, ◌++◌, All, OnOk, length};
+ghost use Rattle.std.specs.Prelude.{◌≡◌, ◌<◌, ◌^◌, ◌++◌, All, OnOk, length, slice_index_or};
 ghost use Rattle.cpu_set.specs.Members.{InRange};
 ghost use Rattle.std.specs.List.{flat_map};
 ghost use Rattle.byte_output.specs.Output.{Writes};
 ghost use Rattle.certificate.specs.declared.certificates.Certificate.TheVariants.{Plan, Short};
+ghost use Rattle.certificate.specs.declared.price_lists.Price.{Price};
+ghost use Rattle.certificate.specs.declared.rows.Offer.{Offer};
 ghost use Rattle.certificate_text.specs.CertificateText.{CanBeText, IsText, hold_lines, id_at};
 ghost use Rattle.certificate_text.specs.Line.{HeaderLine, RowLine, HoldLine, PriceLine, TotalLine, ShortLine, EndLine};
 ghost use Rattle.certificate_text.specs.Written.{offer_text, line_text, text_of, CanWrite, IsHeld, IsOfferHeld};
@@ -11,20 +13,23 @@ ghost use Rattle.certificate_text.specs.Written.{IsRowHeld, IsPriceHeld};
 
 use crate::{Certificate, laws};
 use byte_output::{put, put_all, put_number};
-use certificate::{Cost, Offer, Offers, Price, PriceList, Prices, Row, Weights};
-use cpu_list::write_list;
+use certificate::{Cost, Offers, PriceList, Prices, Row, Weights};
+use cpu_list::{write_list, write_ranges};
 use cpu_set::IdSet;
 use std::io;
 use std::io::Write;
 
-fn put_offer<W: Write>(offer: &Offer, w: &mut W) -> io::Result<()>
-    ensures written { Writes (W.contents w.old) (W.contents w.new) result (offer_text offer.now) }
-    ensures held { IsOfferHeld offer.now }
+// The offer at a place: no set is made of its ranges.
+fn put_offer<W: Write>(offers: &Offers, at: usize, w: &mut W) -> io::Result<()>
+    requires { at < length offers.now }
+    ensures written { (d : Offer) → Writes (W.contents w.old) (W.contents w.new) result
+        (offer_text (slice_index_or offers.now at d)) }
+    ensures held { (d : Offer) → IsOfferHeld (slice_index_or offers.now at d) }
 {
-    offer.cpus.stays_below_the_limit();
-    let weight = offer.weight;
+    let weight = offers.weight(at);
+    let ranges = offers.ranges(at);
     put_number(b" ", u64::from(weight), b":", w)?;
-    write_list(&offer.cpus, w)
+    write_ranges(ranges, w)
 }
 
 fn put_offers<W: Write>(offers: &Offers, w: &mut W) -> io::Result<()>
@@ -32,8 +37,7 @@ fn put_offers<W: Write>(offers: &Offers, w: &mut W) -> io::Result<()>
     ensures held { OnOk result (All IsOfferHeld offers.now) }
 {
     for at in 0..offers.len() {
-        let offer = offers.offer(at);
-        put_offer(&offer, w)?;
+        put_offer(offers, at, w)?;
     }
     Ok(())
 }
@@ -83,14 +87,17 @@ fn put_holds<W: Write>(rows: &[Row], sets: &[IdSet], values: &[u64], w: &mut W) 
     Ok(())
 }
 
-fn put_price<W: Write>(price: &Price, w: &mut W) -> io::Result<()>
-    ensures written { Writes (W.contents w.old) (W.contents w.new) result (line_text (PriceLine price.now)) }
-    ensures held { IsPriceHeld price.now }
+// The price at a place: no set is made of its ranges.
+fn put_price<W: Write>(prices: &PriceList, at: usize, w: &mut W) -> io::Result<()>
+    requires { at < length prices.now }
+    ensures written { (d : Price) → Writes (W.contents w.old) (W.contents w.new) result
+        (line_text (PriceLine (slice_index_or prices.now at d))) }
+    ensures held { (d : Price) → IsPriceHeld (slice_index_or prices.now at d) }
 {
-    price.cpus.stays_below_the_limit();
-    let amount = price.amount;
+    let amount = prices.amount(at);
+    let ranges = prices.ranges(at);
     put_number(b"price ", amount, b" ", w)?;
-    write_list(&price.cpus, w)?;
+    write_ranges(ranges, w)?;
     put(b"\n", w)
 }
 
@@ -100,8 +107,7 @@ fn put_prices<W: Write>(prices: &PriceList, w: &mut W) -> io::Result<()>
     ensures held { OnOk result (All IsPriceHeld prices.now) }
 {
     for at in 0..prices.len() {
-        let price = prices.price(at);
-        put_price(&price, w)?;
+        put_price(prices, at, w)?;
     }
     Ok(())
 }
