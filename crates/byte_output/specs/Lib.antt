@@ -4,3 +4,5 @@ pub mod Parts
 pub mod Sending
 pub mod SendingLemmas
 pub mod DigitsLemmas
+pub mod Gathering
+pub mod GatheringLemmas

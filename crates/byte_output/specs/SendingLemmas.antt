@@ -59,7 +59,7 @@ HasSent-fails old mid new bytes rest part left h e f =
     (SendsFront-then old mid new h.sent (part ++ left) h.went_out (SendsFront-more mid new part left f))
 
 -- the parts before one, that one, and those after it
-flat_map-at : {A : Type 0} (f : A → List ℕ) (xs : List A) (i : ℕ) (d : A) → i < length xs
+pub flat_map-at : {A : Type 0} (f : A → List ℕ) (xs : List A) (i : ℕ) (d : A) → i < length xs
     → flat_map f xs ≡ flat_map f (take i xs) ++ (f (get_or xs i d) ++ flat_map f (drop (suc i) xs))
 flat_map-at f xs i d below =
     ap (flat_map f) (sym (take-append-drop i xs)) ∙ flat_map-append f (take i xs) (drop i xs)

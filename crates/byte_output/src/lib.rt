@@ -7,6 +7,8 @@
 //! - After a fault a prefix of what was to be written went out, and not all.
 #![tactic(auto)]
 
+mod buffer;
 mod output;
 
+pub use buffer::Buffer;
 pub use output::{put, put_all, put_argument, put_number, put_word};

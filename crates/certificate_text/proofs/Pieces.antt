@@ -5,22 +5,13 @@ use Rattle.std.proofs.KnownBytes.{Appends-trans}
 use Rattle.std.proofs.lemmas.Grind.{flat_map-append}
 use Rattle.std.proofs.lemmas.List.{take_more}
 use Rattle.std.specs.Io.KnownBytes.{Appends}
-use Rattle.byte_output.specs.Output.{SendsFront}
-use Rattle.byte_output.specs.SendingLemmas.{sends_part}
+use Rattle.byte_output.specs.GatheringLemmas.{fails_part}
+use Rattle.byte_output.specs.Gathering.{HasGathered, GathersFront}
 
--- all of the parts before one that was read went out, and a prefix of that one
-pub sends_item : {A : Type 0} (f : A → List ℕ) (old mid new : Option (List ℕ)) (xs : List A) (i : ℕ) (x : A) → i < length xs
-    → Appends old mid (flat_map f (take i xs)) → x ≡ get_or xs i x → SendsFront mid new (f x) → SendsFront old new (flat_map f xs)
-sends_item f old mid new xs i x below before e front = sends_part f old mid new xs i x below before (subst (λ y. SendsFront mid new (f y)) e front)
-
--- one part more
-pub sent_more : {A : Type 0} (f : A → List ℕ) (old mid new : Option (List ℕ)) (xs : List A) (i : ℕ) (d : A) → i < length xs
-    → Appends old mid (flat_map f (take i xs)) → Appends mid new (f (get_or xs i d)) → Appends old new (flat_map f (take (i + 1) xs))
-sent_more f old mid new xs i d below before next =
-    let P : List ℕ → Type 0 = λ bytes. Appends old new bytes in
-    let same : flat_map f (take (i + 1) xs) ≡ flat_map f (take i xs) ++ f (get_or xs i d) =
-    ap (flat_map f) (take_more xs i d below) ∙ flat_map-append f (take i xs) (get_or xs i d ∷ []) ∙ ap (λ l. flat_map f (take i xs) ++ l) (append-nil (f (get_or xs i d))) in
-    subst P (sym same) (Appends-trans old mid new (flat_map f (take i xs)) (f (get_or xs i d)) before next)
+-- all of the parts before one that was read were gathered, and of that one a prefix went out
+pub fails_item : {A : Type 0} (f : A → List ℕ) (old mid new : Option (List ℕ)) (w0 w1 : List ℕ) (xs : List A) (i : ℕ) (x : A) → i < length xs
+    → HasGathered old mid w0 w1 (flat_map f (take i xs)) → x ≡ get_or xs i x → GathersFront mid new w1 (f x) → GathersFront old new w0 (flat_map f xs)
+fails_item f old mid new w0 w1 xs i x below before e front = fails_part f old mid new w0 w1 xs i x below before (subst (λ y. GathersFront mid new w1 (f y)) e front)
 
 pub flat_map-map : {A B : Type 0} (f : B → List ℕ) (g : A → B) (xs : List A) → flat_map f (map g xs) ≡ flat_map (λ x. f (g x)) xs
 flat_map-map f g [] = refl

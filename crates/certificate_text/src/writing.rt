@@ -2,6 +2,7 @@
 ghost use Rattle.std.specs.Prelude.{◌≡◌, ◌<◌, ◌^◌, ◌++◌, All, OnOk, length, slice_index_or};
 ghost use Rattle.cpu_set.specs.Members.{InRange};
 ghost use Rattle.std.specs.List.{flat_map};
+ghost use Rattle.byte_output.specs.Gathering.{Gathers};
 ghost use Rattle.byte_output.specs.Output.{Writes};
 ghost use Rattle.certificate.specs.declared.certificates.Certificate.TheVariants.{Plan, Short};
 ghost use Rattle.certificate.specs.declared.price_lists.Price.{Price};
@@ -12,199 +13,239 @@ ghost use Rattle.certificate_text.specs.Written.{offer_text, line_text, text_of,
 ghost use Rattle.certificate_text.specs.Written.{IsRowHeld, IsPriceHeld};
 
 use crate::{Certificate, laws};
-use byte_output::{put, put_all, put_number};
+use byte_output::Buffer;
 use certificate::{Cost, Offers, PriceList, Prices, Row, Weights};
-use cpu_list::{write_list, write_ranges};
+use cpu_list::{add_list, add_ranges};
 use cpu_set::IdSet;
 use std::io;
 use std::io::Write;
 
 // The offer at a place: no set is made of its ranges.
-fn put_offer<W: Write>(offers: &Offers, at: usize, w: &mut W) -> io::Result<()>
+fn add_offer<W: Write>(
+    offers: &Offers,
+    at: usize,
+    buffer: &mut Buffer,
+    w: &mut W,
+) -> io::Result<()>
     requires { at < length offers.now }
-    ensures written { (d : Offer) → Writes (W.contents w.old) (W.contents w.new) result
+    ensures written { (d : Offer) → Gathers (W.contents w.old) (W.contents w.new) buffer.old buffer.new result
         (offer_text (slice_index_or offers.now at d)) }
     ensures held { (d : Offer) → IsOfferHeld (slice_index_or offers.now at d) }
 {
     let weight = offers.weight(at);
     let ranges = offers.ranges(at);
-    put_number(b" ", u64::from(weight), b":", w)?;
-    write_ranges(ranges, w)
+    buffer.add_number_between(b" ", u64::from(weight), b":", w)?;
+    add_ranges(ranges, buffer, w)
 }
 
-fn put_offers<W: Write>(offers: &Offers, w: &mut W) -> io::Result<()>
-    ensures written { Writes (W.contents w.old) (W.contents w.new) result (flat_map offer_text offers.now) }
+fn add_offers<W: Write>(offers: &Offers, buffer: &mut Buffer, w: &mut W) -> io::Result<()>
+    ensures written { Gathers (W.contents w.old) (W.contents w.new) buffer.old buffer.new result (flat_map offer_text offers.now) }
     ensures held { OnOk result (All IsOfferHeld offers.now) }
 {
     for at in 0..offers.len() {
-        put_offer(offers, at, w)?;
+        add_offer(offers, at, buffer, w)?;
     }
     Ok(())
 }
 
-fn put_row<W: Write>(row: &Row, w: &mut W) -> io::Result<()>
-    ensures written { Writes (W.contents w.old) (W.contents w.new) result (line_text (RowLine row.now)) }
+fn add_row<W: Write>(row: &Row, buffer: &mut Buffer, w: &mut W) -> io::Result<()>
+    ensures written { Gathers (W.contents w.old) (W.contents w.new) buffer.old buffer.new result (line_text (RowLine row.now)) }
     ensures held { OnOk result (IsRowHeld row.now) }
 {
     let demand = row.demand;
-    put_all(&[b"row ".as_slice(), row.id.as_bytes()], w)?;
-    put_number(b" ", u64::from(demand), b"", w)?;
-    put_offers(&row.offers, w)?;
-    put(b"\n", w)
+    buffer.add_all(&[b"row ".as_slice(), row.id.as_bytes()], w)?;
+    buffer.add_number_between(b" ", u64::from(demand), b"", w)?;
+    add_offers(&row.offers, buffer, w)?;
+    buffer.add(b"\n", w)
 }
 
-fn put_rows<W: Write>(rows: &[Row], w: &mut W) -> io::Result<()>
-    ensures written { Writes (W.contents w.old) (W.contents w.new) result
+fn add_rows<W: Write>(rows: &[Row], buffer: &mut Buffer, w: &mut W) -> io::Result<()>
+    ensures written { Gathers (W.contents w.old) (W.contents w.new) buffer.old buffer.new result
         (flat_map (λ row. line_text (RowLine row)) rows.now) }
     ensures held { OnOk result (All IsRowHeld rows.now) }
 {
     for row in rows {
-        put_row(row, w)?;
+        add_row(row, buffer, w)?;
     }
     Ok(())
 }
 
-fn put_hold<W: Write>(id: &[u8], cpus: &IdSet, value: u64, w: &mut W) -> io::Result<()>
-    ensures written { Writes (W.contents w.old) (W.contents w.new) result (line_text (HoldLine id.now cpus.now value)) }
+fn add_hold<W: Write>(
+    id: &[u8],
+    cpus: &IdSet,
+    value: u64,
+    buffer: &mut Buffer,
+    w: &mut W,
+) -> io::Result<()>
+    ensures written { Gathers (W.contents w.old) (W.contents w.new) buffer.old buffer.new result
+        (line_text (HoldLine id.now cpus.now value)) }
     ensures held { InRange cpus.now × (value < 2 ^ 64) }
 {
     cpus.stays_below_the_limit();
-    put_all(&[b"hold ".as_slice(), id, b" ".as_slice()], w)?;
-    write_list(cpus, w)?;
-    put_number(b" ", value, b"\n", w)
+    buffer.add_all(&[b"hold ".as_slice(), id, b" ".as_slice()], w)?;
+    add_list(cpus, buffer, w)?;
+    buffer.add_number_between(b" ", value, b"\n", w)
 }
 
-fn put_holds<W: Write>(rows: &[Row], sets: &[IdSet], values: &[u64], w: &mut W) -> io::Result<()>
+fn add_holds<W: Write>(
+    rows: &[Row],
+    sets: &[IdSet],
+    values: &[u64],
+    buffer: &mut Buffer,
+    w: &mut W,
+) -> io::Result<()>
     requires sets { length sets.now ≡ length rows.now }
     requires values { length values.now ≡ length rows.now }
-    ensures written { Writes (W.contents w.old) (W.contents w.new) result
+    ensures written { Gathers (W.contents w.old) (W.contents w.new) buffer.old buffer.new result
         (flat_map line_text (hold_lines rows.now sets.now values.now)) }
     ensures held { OnOk result (All InRange sets.now × All (λ v. v < 2 ^ 64) values.now) }
 {
     for (k, row) in rows.iter().enumerate() {
-        put_hold(row.id.as_bytes(), &sets[k], values[k], w)?;
+        add_hold(row.id.as_bytes(), &sets[k], values[k], buffer, w)?;
     }
     Ok(())
 }
 
 // The price at a place: no set is made of its ranges.
-fn put_price<W: Write>(prices: &PriceList, at: usize, w: &mut W) -> io::Result<()>
+fn add_price<W: Write>(
+    prices: &PriceList,
+    at: usize,
+    buffer: &mut Buffer,
+    w: &mut W,
+) -> io::Result<()>
     requires { at < length prices.now }
-    ensures written { (d : Price) → Writes (W.contents w.old) (W.contents w.new) result
+    ensures written { (d : Price) → Gathers (W.contents w.old) (W.contents w.new) buffer.old buffer.new result
         (line_text (PriceLine (slice_index_or prices.now at d))) }
     ensures held { (d : Price) → IsPriceHeld (slice_index_or prices.now at d) }
 {
     let amount = prices.amount(at);
     let ranges = prices.ranges(at);
-    put_number(b"price ", amount, b" ", w)?;
-    write_ranges(ranges, w)?;
-    put(b"\n", w)
+    buffer.add_number_between(b"price ", amount, b" ", w)?;
+    add_ranges(ranges, buffer, w)?;
+    buffer.add(b"\n", w)
 }
 
-fn put_prices<W: Write>(prices: &PriceList, w: &mut W) -> io::Result<()>
-    ensures written { Writes (W.contents w.old) (W.contents w.new) result
+fn add_prices<W: Write>(prices: &PriceList, buffer: &mut Buffer, w: &mut W) -> io::Result<()>
+    ensures written { Gathers (W.contents w.old) (W.contents w.new) buffer.old buffer.new result
         (flat_map (λ price. line_text (PriceLine price)) prices.now) }
     ensures held { OnOk result (All IsPriceHeld prices.now) }
 {
     for at in 0..prices.len() {
-        put_price(prices, at, w)?;
+        add_price(prices, at, buffer, w)?;
     }
     Ok(())
 }
 
-fn put_member<W: Write>(row: &Row, w: &mut W) -> io::Result<()>
-    ensures { Writes (W.contents w.old) (W.contents w.new) result (line_text (ShortLine row.now.id)) }
+fn add_member<W: Write>(row: &Row, buffer: &mut Buffer, w: &mut W) -> io::Result<()>
+    ensures { Gathers (W.contents w.old) (W.contents w.new) buffer.old buffer.new result (line_text (ShortLine row.now.id)) }
 {
-    put_all(
+    buffer.add_all(
         &[b"short ".as_slice(), row.id.as_bytes(), b"\n".as_slice()],
         w,
     )
 }
 
-fn put_members<W: Write>(rows: &[Row], members: &[usize], w: &mut W) -> io::Result<()>
+fn add_members<W: Write>(
+    rows: &[Row],
+    members: &[usize],
+    buffer: &mut Buffer,
+    w: &mut W,
+) -> io::Result<()>
     requires { All (λ k. k < length rows.now) members.now }
-    ensures { Writes (W.contents w.old) (W.contents w.new) result
+    ensures { Gathers (W.contents w.old) (W.contents w.new) buffer.old buffer.new result
         (flat_map (λ k. line_text (ShortLine (id_at rows.now k))) members.now) }
 {
     for k in members {
-        put_member(&rows[*k], w)?;
+        add_member(&rows[*k], buffer, w)?;
     }
     Ok(())
 }
 
 /// The total and the last line.
-fn put_total<W: Write>(total: u64, weights: Weights, w: &mut W) -> io::Result<()>
-    ensures { Writes (W.contents w.old) (W.contents w.new) result (line_text (TotalLine weights total)
+fn add_total<W: Write>(
+    total: u64,
+    weights: Weights,
+    buffer: &mut Buffer,
+    w: &mut W,
+) -> io::Result<()>
+    ensures { Gathers (W.contents w.old) (W.contents w.new) buffer.old buffer.new result (line_text (TotalLine weights total)
         ++ line_text EndLine) }
 {
     match weights {
-        Weights::Plain => put_number(b"total ", total, b"\nend\n", w),
+        Weights::Plain => buffer.add_number_between(b"total ", total, b"\nend\n", w),
         Weights::WithMoves => {
             let cost = Cost::unpack(total);
-            put_number(b"total ", cost.distance, b" moves ", w)?;
-            put_number(b"", cost.moves, b"\nend\n", w)
+            buffer.add_number_between(b"total ", cost.distance, b" moves ", w)?;
+            buffer.add_number_between(b"", cost.moves, b"\nend\n", w)
         }
     }
 }
 
-fn put_header<W: Write>(weights: Weights, w: &mut W) -> io::Result<()>
-    ensures { Writes (W.contents w.old) (W.contents w.new) result (line_text (HeaderLine weights)) }
+fn add_header<W: Write>(weights: Weights, buffer: &mut Buffer, w: &mut W) -> io::Result<()>
+    ensures { Gathers (W.contents w.old) (W.contents w.new) buffer.old buffer.new result (line_text (HeaderLine weights)) }
 {
     match weights {
-        Weights::Plain => put(b"numarun-certificate 1\n", w),
-        Weights::WithMoves => put(b"numarun-certificate 2\n", w),
+        Weights::Plain => buffer.add(b"numarun-certificate 1\n", w),
+        Weights::WithMoves => buffer.add(b"numarun-certificate 2\n", w),
     }
 }
 
 /// The first line, and the rows.
-fn put_head<W: Write>(rows: &[Row], weights: Weights, w: &mut W) -> io::Result<()>
-    ensures written { Writes (W.contents w.old) (W.contents w.new) result
+fn add_head<W: Write>(
+    rows: &[Row],
+    weights: Weights,
+    buffer: &mut Buffer,
+    w: &mut W,
+) -> io::Result<()>
+    ensures written { Gathers (W.contents w.old) (W.contents w.new) buffer.old buffer.new result
         (line_text (HeaderLine weights) ++ flat_map (λ row. line_text (RowLine row)) rows.now) }
     ensures held { OnOk result (All IsRowHeld rows.now) }
 {
-    put_header(weights, w)?;
-    put_rows(rows, w)
+    add_header(weights, buffer, w)?;
+    add_rows(rows, buffer, w)
 }
 
-fn write_plan<W: Write>(
+fn add_plan<W: Write>(
     rows: &[Row],
     sets: &[IdSet],
     prices: &Prices,
     total: u64,
     weights: Weights,
+    buffer: &mut Buffer,
     w: &mut W,
 ) -> io::Result<()>
     requires sets { length sets.now ≡ length rows.now }
     requires values { length prices.now.values ≡ length rows.now }
-    ensures written { Writes (W.contents w.old) (W.contents w.new) result
+    ensures written { Gathers (W.contents w.old) (W.contents w.new) buffer.old buffer.new result
         (text_of (Plan rows.now sets.now prices.now total weights)) }
     ensures held { OnOk result (IsHeld (Plan rows.now sets.now prices.now total weights)) }
 {
-    put_head(rows, weights, w)?;
-    put_holds(rows, sets, prices.values.as_slice(), w)?;
-    put_prices(&prices.of_cpu, w)?;
-    put_total(total, weights, w)
+    add_head(rows, weights, buffer, w)?;
+    add_holds(rows, sets, prices.values.as_slice(), buffer, w)?;
+    add_prices(&prices.of_cpu, buffer, w)?;
+    add_total(total, weights, buffer, w)
 }
 
-fn write_shortage<W: Write>(
+fn add_shortage<W: Write>(
     rows: &[Row],
     members: &[usize],
     weights: Weights,
+    buffer: &mut Buffer,
     w: &mut W,
 ) -> io::Result<()>
     requires { All (λ k. k < length rows.now) members.now }
-    ensures written { Writes (W.contents w.old) (W.contents w.new) result
+    ensures written { Gathers (W.contents w.old) (W.contents w.new) buffer.old buffer.new result
         (text_of (Short rows.now members.now weights)) }
     ensures held { OnOk result (IsHeld (Short rows.now members.now weights)) }
 {
-    put_head(rows, weights, w)?;
-    put_members(rows, members, w)?;
-    put(b"end\n", w)
+    add_head(rows, weights, buffer, w)?;
+    add_members(rows, members, buffer, w)?;
+    buffer.add(b"end\n", w)
 }
 
-fn write_text_body<W: Write>(certificate: &Certificate, w: &mut W) -> io::Result<()>
+fn add_text<W: Write>(certificate: &Certificate, buffer: &mut Buffer, w: &mut W) -> io::Result<()>
     requires { CanBeText certificate.now }
-    ensures written { Writes (W.contents w.old) (W.contents w.new) result (text_of certificate.now) }
+    ensures written { Gathers (W.contents w.old) (W.contents w.new) buffer.old buffer.new result (text_of certificate.now) }
     ensures held { OnOk result (IsHeld certificate.now) }
 {
     match certificate {
@@ -214,31 +255,43 @@ fn write_text_body<W: Write>(certificate: &Certificate, w: &mut W) -> io::Result
             prices,
             total,
             weights,
-        } => write_plan(
+        } => add_plan(
             problem.rows.as_slice(),
             plan.sets.as_slice(),
             prices,
             *total,
             *weights,
+            buffer,
             w,
         ),
         Certificate::Short {
             problem,
             members,
             weights,
-        } => write_shortage(
+        } => add_shortage(
             problem.rows.as_slice(),
             members.rows.as_slice(),
             *weights,
+            buffer,
             w,
         ),
     }
 }
 
+fn write_text_body<W: Write>(certificate: &Certificate, w: &mut W) -> io::Result<()>
+    requires { CanBeText certificate.now }
+    ensures written { Writes (W.contents w.old) (W.contents w.new) result (text_of certificate.now) }
+    ensures held { OnOk result (IsHeld certificate.now) }
+{
+    let mut buffer = Buffer::new();
+    add_text(certificate, &mut buffer, w)?;
+    buffer.send(w)
+}
+
 /// Writes the certificate as a text, which [`read_text`](crate::read_text) reads again. It allocates nothing.
 ///
 /// # Errors
-/// As [`put`]: where it fails, a prefix of the text went out.
+/// As [`Buffer::send`]: where it fails, a prefix of the text went out.
 pub fn write_text<W: Write>(certificate: &Certificate, w: &mut W) -> io::Result<()>
     // Ids are valid and no two rows have one; no set is empty; a plan has a set and a value for each row; a shortage
     // has members, which are rows, each after the one before.

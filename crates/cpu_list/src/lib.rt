@@ -15,4 +15,4 @@ pub use fault::{ListError, ListErrorKind};
 pub use printing::print;
 pub use reading::read;
 pub use rising::read_rising;
-pub use writing::{write_list, write_ranges};
+pub use writing::{add_list, add_ranges, write_list};

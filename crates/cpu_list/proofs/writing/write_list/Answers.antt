@@ -1,23 +1,5 @@
-use Rattle.std.proofs.lemmas.Result.{err_from_is_err_and}
-use Rattle.byte_output.specs.SendingLemmas.{HasSent-none, HasSent-then, HasSent-fails}
-use Rattle.cpu_list.proofs.SetTexts.{text_whole, text_left}
+use Rattle.byte_output.specs.GatheringLemmas.{gathers_all}
 use Rattle.cpu_list.proofs.writing.write_list.Goals as goal
 
-pub loop-first-init : goal.loop-first-init
-loop-first-init g c = (
-  tt,
-  tt,
-  HasSent-none _ _ _ (rw (c.into_iter-first-iterator.ensures.into_iter_gives, c.of-first-items.ensures) (text_whole _)),
-)
-
-pub returns-in_err-put_item : goal.returns-in_err-put_item
-returns-in_err-put_item g c =
-    let p = err_from_is_err_and c.from_residual.result c.from_residual.ensures.1 in
-    rw p.1 (HasSent-fails _ _ _ _ _ _ _ c.loop-first.invariant.2 (text_left _ _ _ _ c.in-Some.ensures.steps) c.in_err-put_item.ensures)
-
-pub loop-first-preserved : goal.loop-first-preserved
-loop-first-preserved g c = (
-  tt,
-  tt,
-  HasSent-then _ _ _ _ _ _ _ c.loop-first.invariant.2 (text_left _ _ _ _ c.in-Some.ensures.steps) c.in_ok-put_item.ensures,
-)
+pub returns : goal.returns
+returns g c = gathers_all _ _ _ c.send.result _ _ (rw c.new-buffer.ensures at c.in_ok-add_list.ensures) c.send.ensures.written

@@ -1,0 +1,13 @@
+use Rattle.std.proofs.Common.{take}
+use Rattle.std.specs.List.{flat_map}
+use Rattle.byte_output.specs.Gathering.{HasGathered}
+use Rattle.certificate_text.specs.Line.{PriceLine}
+use Rattle.certificate_text.specs.Written.{line_text, IsPriceHeld}
+use Rattle.certificate_text.proofs.HeldItems.{HoldUpTo}
+use Rattle.certificate_text.proofs.writing.add_prices.Given as goal
+
+abbrev pub invariant-loop-at : goal.invariant-loop-at
+invariant-loop-at g l = record {
+  sent : HasGathered (g.W.Write.contents l.fn.w) (g.W.Write.contents l.w) l.fn.buffer l.buffer (flat_map (λ price. line_text (PriceLine price)) (take l.at l.prices));
+  held : HoldUpTo IsPriceHeld l.prices l.at;
+}

@@ -1,4 +1,0 @@
-use Rattle.certificate_text.proofs.writing.put_member.Goals as goal
-
-pub returns : goal.returns
-returns g c = rw (← c.row.view_is) (rw (c.as_slice.ensures, c.as_bytes.ensures.value, c.as_slice-2.ensures) at c.put_all.ensures)
