@@ -4,3 +4,4 @@ pub mod Finding
 pub mod Counted
 pub mod OneWord
 pub mod Last
+pub mod Told

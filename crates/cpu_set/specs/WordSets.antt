@@ -1,5 +1,6 @@
 -- A set of numbers that all lie in one word.
-use Rattle.std.specs.Prelude.{ℕ, ◌<◌, ◌^◌, replicate, slice_set}
+use Rattle.std.specs.Prelude.{◌≡◌, ℕ, ◌/◌, ◌<◌, ◌≤◌, ◌^◌, true, replicate, slice_set}
+use Rattle.std.specs.FinSet as set
 use Rattle.cpu_set.specs.Ids.{Ids}
 use Rattle.cpu_set.specs.Words.{set_of_words}
 use Rattle.cpu_set.specs.declared.id_set.TheConstants.{WORDS}
@@ -12,3 +13,8 @@ set_of_word at bits = set_of_words (slice_set (replicate WORDS 0) at bits)
 pub record IsWordSet (at bits : ℕ) : Type 0 where
   pub within : at < WORDS
   pub fits : bits < 2 ^ 64
+
+-- each number of the set lies in a word from a first one up to before another, of those that there are
+pub record AreWithin (from upto : ℕ) (s : Ids) : Type 0 where
+  pub end : upto ≤ WORDS
+  pub within : (n : ℕ) → set.contains s n ≡ true → (from ≤ n / 64) × (n / 64 < upto)

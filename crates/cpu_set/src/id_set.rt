@@ -13,9 +13,9 @@ use std::fmt;
 use std::marker::Model;
 use std::simd::prelude::*;
 
-const WORD_BITS: usize = 64;
+pub(crate) const WORD_BITS: usize = 64;
 
-const WORDS: usize = CPU_LIMIT as usize / WORD_BITS;
+pub(crate) const WORDS: usize = CPU_LIMIT as usize / WORD_BITS;
 
 /// A set of numbers below [`CPU_LIMIT`]: CPUs, or nodes. Number n is bit `n % 64` of word `n / 64`.
 #[derive(Clone, Copy)]
@@ -203,6 +203,40 @@ impl IdSet {
             Some(i) => Some((k * WORD_BITS) as u16 + i as u16),
             None => self.first_in_words(k + 1),
         }
+    }
+
+    /// The least number of the set above `n` that is not in another. One that is far away costs a step for each 64
+    /// numbers.
+    pub fn next_outside(&self, n: u16, other: &IdSet) -> Option<u16>
+        ensures first { MatchOption result (NoneFrom (set.difference self.now other.now) (n + 1))
+            (λ m. IsFirstFrom (set.difference self.now other.now) (n + 1) m) }
+        ensures in_range { IfSome result (λ m. IsCpu m) }
+    {
+        let words = &self.words;
+        let least = n as usize + 1;
+        if least >= CPU_LIMIT as usize {
+            return None;
+        }
+        let k = least / WORD_BITS;
+        match first_bit(words[k] & !other.words[k], (least % WORD_BITS) as u32) {
+            Some(i) => Some((k * WORD_BITS) as u16 + i as u16),
+            None => self.first_outside_in_words(k + 1, other),
+        }
+    }
+
+    // The least number in the words from this one on that is not in another set.
+    fn first_outside_in_words(&self, from: usize, other: &IdSet) -> Option<u16>
+        ensures first { MatchOption result (NoneFrom (set.difference self.now other.now) (from * 64))
+            (λ n. IsFirstFrom (set.difference self.now other.now) (from * 64) n) }
+        ensures in_range { IfSome result (λ n. IsCpu n) }
+    {
+        for k in from..WORDS {
+            let word = self.words[k] & !other.words[k];
+            if word != 0 {
+                return Some((k * WORD_BITS) as u16 + word.trailing_zeros() as u16);
+            }
+        }
+        None
     }
 
     // The numbers from 64 times this place on as bits.
