@@ -1,11 +1,11 @@
 -- The CPUs that a new container may request.
 use Rattle.std.proofs.Common.{◌≡◌, ◌≢◌, ℕ, Bool, true, false, not, ◌&&◌, ◌||◌, List, [], ◌∷◌, refl, sym, ap, ◌∙◌, subst, arith}
 use Rattle.std.proofs.lemmas.Bool.{false≢true, ne_eqb, or_right}
-use Rattle.std.specs.Prelude.{Option, Some, None, MatchOption, Result, Err}
+use Rattle.std.specs.Prelude.{Option, Some, None, is_some, MatchOption, Result, Err}
 use Rattle.std.specs.List.{AllByRecursion, list_any}
 use Rattle.std.specs.FinSet as set
 use Rattle.cpu_set.specs.Ids.{Ids, NoneFrom, IsFirstFrom}
-use Rattle.cpu_set.specs.PointwiseLaws.{contains-empty, contains-union, contains-difference, is_subset-contains}
+use Rattle.cpu_set.specs.PointwiseLaws.{contains-empty, contains-union, contains-intersection, contains-difference, is_subset-contains}
 use Rattle.cpuset_tree.specs.Groups.{has_group}
 use Rattle.kernel_model.specs.KernelState.{KernelState}
 use Rattle.machine.specs.Present.{present}
@@ -53,34 +53,61 @@ module _ (k : KernelState) (pinned : Bool) (cpu : ℕ) (e : List ℕ × Containe
       ∙ ap (λ b. is_live k e.1 && (b && set.contains (requested_by k e) cpu)) also
       ∙ and-false (is_live k e.1)
 
--- what is kept so far, and what those that are left keep, is what all keep
-pub record KeptSoFar (k : KernelState) (pinned : Bool) (all left : List (List ℕ × ContainerState)) (kept : Ids) : Type 0 where
-  pub whole : (cpu : ℕ) → (set.contains kept cpu || list_any (keeps k pinned cpu) left) ≡ list_any (keeps k pinned cpu) all
+  pub keeps_unrequested : set.contains (requested_by k e) cpu ≡ false → keeps k pinned cpu e ≡ false
+  keeps_unrequested none =
+      ap (λ b. is_live k e.1 && ((is_pinned e.1.demand.kind || pinned) && b)) none
+      ∙ ap (λ b. is_live k e.1 && b) (and-false (is_pinned e.1.demand.kind || pinned))
+      ∙ and-false (is_live k e.1)
+
+second_false : (a b : Bool) → a ≡ true → (a && b) ≡ false → b ≡ false
+second_false true b p none = none
+second_false false b p none = absurd (false≢true p)
+
+-- of two sets that have no CPU in common, the second has none of the first
+pub none_common : (found : Option ℕ) (asked other : Ids) → is_some found ≡ false
+    → MatchOption found (NoneFrom (set.intersection asked other) 0) (λ n. IsFirstFrom (set.intersection asked other) 0 n)
+    → (cpu : ℕ) → set.contains asked cpu ≡ true → set.contains other cpu ≡ false
+none_common None asked other none first cpu there =
+    second_false (set.contains asked cpu) (set.contains other cpu) there (sym (contains-intersection asked other cpu) ∙ first cpu (omega arith))
+none_common (Some n) asked other none first cpu there = absurd (false≢true (sym none))
+
+-- of the CPUs that are asked for: what is kept so far, and what those that are left keep, is what all keep
+pub record KeptSoFar (k : KernelState) (pinned : Bool) (asked : Ids) (all left : List (List ℕ × ContainerState)) (kept : Ids) : Type 0 where
+  pub whole : (cpu : ℕ) → set.contains asked cpu ≡ true → (set.contains kept cpu || list_any (keeps k pinned cpu) left) ≡ list_any (keeps k pinned cpu) all
   pub placed : AllByRecursion (λ e. has_group k.tree e.1.group ≡ true) left
 
-module _ (k : KernelState) (pinned : Bool) (all : List (List ℕ × ContainerState)) where
-  pub kept_first : (kept : Ids) → kept ≡ set.empty → AllByRecursion (λ e. has_group k.tree e.1.group ≡ true) all → KeptSoFar k pinned all all kept
+module _ (k : KernelState) (pinned : Bool) (asked : Ids) (all : List (List ℕ × ContainerState)) where
+  pub kept_first : (kept : Ids) → kept ≡ set.empty → AllByRecursion (λ e. has_group k.tree e.1.group ≡ true) all → KeptSoFar k pinned asked all all kept
   kept_first kept none placed = record {
-    whole = λ cpu. ap (λ s. set.contains s cpu || list_any (keeps k pinned cpu) all) none ∙ ap (λ b. b || list_any (keeps k pinned cpu) all) (contains-empty cpu);
+    whole = λ cpu there.
+        ap (λ s. set.contains s cpu || list_any (keeps k pinned cpu) all) none ∙ ap (λ b. b || list_any (keeps k pinned cpu) all) (contains-empty cpu);
     placed = placed;
   }
 
-  pub kept_next : (e : List ℕ × ContainerState) (left : List (List ℕ × ContainerState)) (kept own new : Ids) → KeptSoFar k pinned all (e ∷ left) kept
-      → ((cpu : ℕ) → set.contains own cpu ≡ keeps k pinned cpu e) → new ≡ set.union kept own → KeptSoFar k pinned all left new
+  pub kept_next : (e : List ℕ × ContainerState) (left : List (List ℕ × ContainerState)) (kept own new : Ids) → KeptSoFar k pinned asked all (e ∷ left) kept
+      → ((cpu : ℕ) → set.contains own cpu ≡ keeps k pinned cpu e) → new ≡ set.union kept own → KeptSoFar k pinned asked all left new
   kept_next e left kept own new so_far its is = record {
-    whole = λ cpu.
+    whole = λ cpu there.
         ap (λ s. set.contains s cpu || list_any (keeps k pinned cpu) left) is
         ∙ ap (λ b. b || list_any (keeps k pinned cpu) left) (contains-union kept own cpu)
         ∙ ap (λ b. (set.contains kept cpu || b) || list_any (keeps k pinned cpu) left) (its cpu)
         ∙ or_assoc (set.contains kept cpu) (keeps k pinned cpu e) (list_any (keeps k pinned cpu) left)
-        ∙ so_far.whole cpu;
+        ∙ so_far.whole cpu there;
     placed = so_far.placed.1;
   }
 
-  pub kept_last : (left : List (List ℕ × ContainerState)) (kept : Ids) → KeptSoFar k pinned all left kept → left ≡ [] → (cpu : ℕ)
+  -- one that keeps none of those that are asked for is passed over
+  pub kept_passed : (e : List ℕ × ContainerState) (left : List (List ℕ × ContainerState)) (kept : Ids) → KeptSoFar k pinned asked all (e ∷ left) kept
+      → ((cpu : ℕ) → set.contains asked cpu ≡ true → keeps k pinned cpu e ≡ false) → KeptSoFar k pinned asked all left kept
+  kept_passed e left kept so_far none = record {
+    whole = λ cpu there. ap (λ b. set.contains kept cpu || (b || list_any (keeps k pinned cpu) left)) (sym (none cpu there)) ∙ so_far.whole cpu there;
+    placed = so_far.placed.1;
+  }
+
+  pub kept_last : (left : List (List ℕ × ContainerState)) (kept : Ids) → KeptSoFar k pinned asked all left kept → left ≡ [] → (cpu : ℕ) → set.contains asked cpu ≡ true
       → set.contains kept cpu ≡ list_any (keeps k pinned cpu) all
-  kept_last left kept so_far none cpu =
-      sym (or-false (set.contains kept cpu)) ∙ ap (λ (xs : List (List ℕ × ContainerState)). set.contains kept cpu || list_any (keeps k pinned cpu) xs) (sym none) ∙ so_far.whole cpu
+  kept_last left kept so_far none cpu there =
+      sym (or-false (set.contains kept cpu)) ∙ ap (λ (xs : List (List ℕ × ContainerState)). set.contains kept cpu || list_any (keeps k pinned cpu) xs) (sym none) ∙ so_far.whole cpu there
 
 module _ (n : NodeState) (h : IsNode n) (pinned : Bool) (cpus : Ids) (may : MayRequest n pinned cpus) where
   kept_reserved : (cpu : ℕ) → set.contains cpus cpu ≡ true → list_any (keeps n.kernel pinned cpu) n.containers ≡ true → set.contains n.kernel.reserved cpu ≡ true
@@ -111,6 +138,11 @@ by_tests false reserved present kept within = refl
 by_tests true true true kept within = refl
 by_tests true true false kept within = absurd (false≢true (within refl))
 by_tests true false present kept within = refl
+
+-- what is asked of a CPU that is not among those does not count
+where_asked : (asked present kept told : Bool) → (asked ≡ true → kept ≡ told) → (asked && not (present && not kept)) ≡ (asked && not (present && not told))
+where_asked true present kept told same = ap (λ b. not (present && not b)) (same refl)
+where_asked false present kept told same = refl
 
 both_true : (a b : Bool) → a ≡ true → b ≡ true → (a && b) ≡ true
 both_true true b p q = q
@@ -150,13 +182,13 @@ module _ (n : NodeState) (pinned : Bool) (cpus kept : Ids) (within : set.is_subs
       let reserved : set.contains n.machine.reserved cpu ≡ true = without _ _ out there in
       reserved_free n pinned within cpu reserved
 
-  module _ (kept_is : (cpu : ℕ) → set.contains kept cpu ≡ list_any (keeps n.kernel pinned cpu) n.containers) where
+  module _ (kept_is : (cpu : ℕ) → set.contains others cpu ≡ true → set.contains kept cpu ≡ list_any (keeps n.kernel pinned cpu) n.containers) where
     taken : (cpu : ℕ) → set.contains (set.difference others free) cpu ≡ (set.contains cpus cpu && not (is_free_cpu n pinned cpu))
     taken cpu =
         contains-difference others free cpu
-        ∙ ap (λ b. b && not (set.contains free cpu)) (contains-difference cpus n.machine.reserved cpu)
-        ∙ ap (λ b. (set.contains cpus cpu && not (set.contains n.machine.reserved cpu)) && not b) (contains-difference (present n.machine) kept cpu)
-        ∙ ap (λ b. (set.contains cpus cpu && not (set.contains n.machine.reserved cpu)) && not (set.contains (present n.machine) cpu && not b)) (kept_is cpu)
+        ∙ ap (λ b. set.contains others cpu && not b) (contains-difference (present n.machine) kept cpu)
+        ∙ where_asked (set.contains others cpu) (set.contains (present n.machine) cpu) (set.contains kept cpu) (list_any (keeps n.kernel pinned cpu) n.containers) (kept_is cpu)
+        ∙ ap (λ b. b && not (set.contains (present n.machine) cpu && not (list_any (keeps n.kernel pinned cpu) n.containers))) (contains-difference cpus n.machine.reserved cpu)
         ∙ by_tests (set.contains cpus cpu) (set.contains n.machine.reserved cpu) (set.contains (present n.machine) cpu)
         (list_any (keeps n.kernel pinned cpu) n.containers) (reserved_present cpu)
 
@@ -185,8 +217,11 @@ module _ (n now : NodeState) (is : n ≡ now) (pinned : Bool) (cpus reserved : I
   none_taken_by none =
       subst (λ (m : NodeState). AreFreeCpus m pinned cpus) is (all_reserved n pinned cpus set.empty within_present (sym beside_others ∙ none))
 
-  module _ (kept : Ids) (kept_is : (cpu : ℕ) → set.contains kept cpu ≡ list_any (keeps n.kernel pinned cpu) n.containers) (all : Ids) (all_is : all ≡ present n.machine)
+  module _ (kept : Ids) (kept_is : (cpu : ℕ) → set.contains beside cpu ≡ true → set.contains kept cpu ≡ list_any (keeps n.kernel pinned cpu) n.containers) (all : Ids) (all_is : all ≡ present n.machine)
       (free_cpus : Ids) (free_is : free_cpus ≡ set.difference all kept) (left : Ids) (left_is : left ≡ set.difference beside free_cpus) where
+    kept_of_others : (cpu : ℕ) → set.contains (set.difference cpus n.machine.reserved) cpu ≡ true → set.contains kept cpu ≡ list_any (keeps n.kernel pinned cpu) n.containers
+    kept_of_others cpu there = kept_is cpu (ap (λ s. set.contains s cpu) beside_others ∙ there)
+
     left_taken : left ≡ set.difference (set.difference cpus n.machine.reserved) (set.difference (present n.machine) kept)
     left_taken =
         left_is ∙ ap (λ s. set.difference s free_cpus) beside_others
@@ -196,10 +231,10 @@ module _ (n now : NodeState) (is : n ≡ now) (pinned : Bool) (cpus reserved : I
         → MatchOption first (AreFreeCpus now pinned cpus) (λ cpu. IsLeastTaken now pinned cpus cpu)
     first_taken_by None none =
         subst (λ (m : NodeState). AreFreeCpus m pinned cpus) is
-        (none_taken n pinned cpus kept within_present kept_is (subst (λ s. NoneFrom s 0) left_taken none))
+        (none_taken n pinned cpus kept within_present kept_of_others (subst (λ s. NoneFrom s 0) left_taken none))
     first_taken_by (Some cpu) first =
         subst (λ (m : NodeState). IsLeastTaken m pinned cpus cpu) is
-        (least_taken n pinned cpus kept within_present kept_is cpu (subst (λ s. IsFirstFrom s 0 cpu) left_taken first))
+        (least_taken n pinned cpus kept within_present kept_of_others cpu (subst (λ s. IsFirstFrom s 0 cpu) left_taken first))
 
 -- `create`, as the code makes it
 module _ (n now : NodeState) (is : n ≡ now) (id bundle config : List ℕ) (r : Result ℕ (OrMemory NodeFault)) (new : NodeState) (reserved : Ids)

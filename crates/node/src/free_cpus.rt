@@ -1,15 +1,16 @@
 //! Which CPUs a new container may request.
-ghost use Rattle.std.specs.Prelude.{◌≡◌, ℕ, List, true, MatchOption};
+ghost use Rattle.std.specs.Prelude.{◌≡◌, ℕ, List, true, false, IsTrue, IsFalse, MatchOption};
 ghost use Rattle.std.specs.List.{AllByRecursion, list_any};
 ghost use Rattle.std.specs.FinSet as set;
 ghost use Rattle.cpuset_tree.specs.Groups.{has_group};
 ghost use Rattle.node.specs.MayRequest.{keeps, AreFreeCpus, IsLeastTaken};
 ghost use Rattle.node.specs.Owners.{is_pinned};
+ghost use Rattle.node.specs.Rows.{requested_by};
 ghost use Rattle.node.specs.Viewed.{viewed, all_seen};
 
 use crate::Node;
 use crate::container::Container;
-use cpu_set::IdSet;
+use cpu_set::{IdSet, Spanned};
 use demand::Kind;
 use indexmap::IndexMap;
 use kernel_model::{Kernel, requested};
@@ -24,31 +25,43 @@ pub fn is_pinned(kind: Kind) -> bool
     }
 }
 
-/// The CPUs that a container keeps from a new one, which is pinned or not.
-fn kept_by<K: Kernel>(kernel: &K, container: &Container, pinned: bool) -> IdSet
+/// Whether a container keeps one of some CPUs from a new one, which is pinned or not. If so, it keeps all that it
+/// requests.
+fn keeps_some<K: Kernel>(kernel: &K, container: &Container, asked: &Spanned, pinned: bool) -> bool
     requires { has_group (K.state kernel.now).tree container.now.group ≡ true }
-    ensures { (id : List ℕ) (cpu : ℕ) → set.contains result cpu
+    ensures all { IsTrue result → (id : List ℕ) (cpu : ℕ) → set.contains (requested_by (K.state kernel.now) (id, viewed container.now)) cpu
         ≡ keeps (K.state kernel.now) pinned cpu (id, viewed container.now) }
+    ensures none { IsFalse result → (id : List ℕ) (cpu : ℕ) → set.contains asked.now cpu ≡ true
+        → keeps (K.state kernel.now) pinned cpu (id, viewed container.now) ≡ false }
 {
     if !kernel.first_alive(container.pid) {
-        return IdSet::empty();
+        return false;
     }
     if !is_pinned(container.demand.kind) && !pinned {
-        return IdSet::empty();
+        return false;
     }
-    *requested(kernel, container.group)
+    asked
+        .first_common(requested(kernel, container.group))
+        .is_some()
 }
 
-/// The CPUs that one of the containers keeps from a new one.
-fn kept_in<K: Kernel>(kernel: &K, containers: &IndexMap<String, Container>, pinned: bool) -> IdSet
+/// The CPUs that the containers keep from a new one that asks for some; of those that keep none of these it is not told.
+fn kept_in<K: Kernel>(
+    kernel: &K,
+    containers: &IndexMap<String, Container>,
+    asked: &Spanned,
+    pinned: bool,
+) -> IdSet
     requires { AllByRecursion (λ e. has_group (K.state kernel.now).tree e.1.group
         ≡ true) (all_seen containers.now.entries) }
-    ensures { (cpu : ℕ) → set.contains result cpu
+    ensures { (cpu : ℕ) → set.contains asked.now cpu ≡ true → set.contains result cpu
         ≡ list_any (keeps (K.state kernel.now) pinned cpu) (all_seen containers.now.entries) }
 {
     let mut kept = IdSet::empty();
     for (_, container) in containers.iter() {
-        kept = kept.union(&kept_by(kernel, container, pinned));
+        if keeps_some(kernel, container, asked, pinned) {
+            kept = kept.union(requested(kernel, container.group));
+        }
     }
     kept
 }
@@ -63,7 +76,8 @@ impl<K: Kernel + Drop> Node<K> {
         if others.is_empty() {
             return None;
         }
-        let kept = kept_in(&self.kernel, &self.containers, pinned);
+        let asked = Spanned::of(&others);
+        let kept = kept_in(&self.kernel, &self.containers, &asked, pinned);
         let free = self.machine.present().minus(&kept);
         others.minus(&free).first()
     }
