@@ -97,9 +97,10 @@ def claims(lines: list[str]) -> list[str]:
 
 
 def doc(lines: list[str], at: int, whole: bool) -> str:
-    """The first paragraph of a function's doc, or all of it up to its first heading."""
-    while lines[at - 1].endswith("]"):
-        at = next(first for first in range(at - 1, -1, -1) if lines[first].strip().startswith("#["))
+    """The first paragraph of a function's doc, or all of it up to its first heading. Attributes and a comment may stand below it."""
+    while lines[at - 1].endswith("]") or lines[at - 1].lstrip().startswith("// "):
+        start = "#[" if lines[at - 1].endswith("]") else "// "
+        at = next(first for first in range(at - 1, -1, -1) if lines[first].strip().startswith(start))
     said = []
     for line in above(lines, at, "///"):
         if line.startswith("# ") or not (line or whole):

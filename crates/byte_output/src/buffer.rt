@@ -1,5 +1,5 @@
 //! Bytes that are gathered, and written together.
-ghost use Rattle.std.specs.Prelude.{◌≡◌, ◌≤◌, ℕ, List, [], ◌++◌, IsTrue, IsFalse, decimal, length, take};
+ghost use Rattle.std.specs.Prelude.{◌≡◌, ◌≤◌, ℕ, List, [], ◌++◌, IsTrue, IsFalse, decimal, take};
 ghost use Rattle.byte_output.specs.Gathering.{Gathers};
 ghost use Rattle.byte_output.specs.Output.{Writes};
 ghost use Rattle.byte_output.specs.Parts.{bytes_of};

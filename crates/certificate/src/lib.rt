@@ -18,8 +18,9 @@
 //!
 //! - `Offers` is a list to which offers are added (`push`), also by the ranges of their CPUs (`push_ranges`). Those of
 //!   another list are added at a weight, whole (`push_from`) or less some CPUs (`push_without`). It has their CPUs as
-//!   one set (`cpus`). A set that it lends is that of the offer (`wide`). It says whether each weighs more than all
-//!   before it (`are_rising`), and whether two lists are the same (`is_same`). `PriceList` is such a list of prices.
+//!   one set (`cpus`). It lends the ranges of an offer's CPUs (`ranges`), and a set that it lends is that of the offer
+//!   (`wide`). It says whether each weighs more than all before it (`are_rising`), and whether two lists are the same
+//!   (`is_same`). `PriceList` is such a list of prices.
 //! - `Cost` makes one number of a distance and moves (`pack`, `weight`), and the two of such a number (`unpack`).
 //! - All sums fit their types for all inputs.
 #![tactic(auto)]

@@ -176,10 +176,10 @@ impl Offers {
         self.sets.tag(at)
     }
 
-    /// The CPUs of the offer at a place, as ranges from a first CPU up to a last.
+    /// The CPUs of the offer at a place, as ranges from a first CPU up to a last. They rise, and each is as long as
+    /// possible.
     pub fn ranges(&self, at: usize) -> &[(u16, u16)]
         requires { at < length self.now }
-        // They rise, and each is as long as possible.
         ensures ranges { (d : Offer) → result.now ≡ ranges_of_set (slice_index_or self.now at d).cpus }
         ensures members { (d : Offer) (cpu : ℕ) → in_ranges result.now cpu
             ≡ set.contains (slice_index_or self.now at d).cpus cpu }

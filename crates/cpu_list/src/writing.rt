@@ -1,5 +1,5 @@
 //! A set as text, to a writer.
-ghost use Rattle.std.specs.Prelude.{◌++◌, length};
+ghost use Rattle.std.specs.Prelude.{◌++◌};
 ghost use Rattle.cpu_list.specs.CanonicalList.{range_text, ranges_text, list_text};
 ghost use Rattle.cpu_list.specs.TextAfter.{separator_of};
 ghost use Rattle.byte_output.specs.Gathering.{Gathers};

@@ -45,7 +45,7 @@ fn keeps_some<K: Kernel>(kernel: &K, container: &Container, asked: &Spanned, pin
         .is_some()
 }
 
-/// The CPUs that the containers keep from a new one that asks for some; of those that keep none of these it is not told.
+/// The CPUs that the containers keep from a new one that asks for some. Those that keep none of these are passed over.
 fn kept_in<K: Kernel>(
     kernel: &K,
     containers: &IndexMap<String, Container>,

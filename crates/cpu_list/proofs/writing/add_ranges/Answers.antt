@@ -2,7 +2,7 @@ use native.Mathlib.Numerals.{unary_clauses}
 use Rattle.std.proofs.Common.{sym, ap, drop-cons, ◌++◌}
 use Rattle.std.proofs.lemmas.Result.{err_from_is_err_and}
 use Rattle.byte_output.specs.SendingLemmas.{HasSent-none}
-use Rattle.byte_output.specs.GatheringLemmas.{gathers_next, fails_next, gathers_end}
+use Rattle.byte_output.specs.GatheringLemmas.{gathers_next, fails_next}
 use Rattle.cpu_list.proofs.RangeText.{text_after-nil}
 use Rattle.cpu_list.proofs.SetTexts.{text_left}
 use Rattle.cpu_list.proofs.writing.add_ranges.Goals as goal
