@@ -18,3 +18,4 @@ pub mod Ends
 pub mod Placed
 pub mod SettledCpus
 pub mod RowCpus
+pub mod Unlike

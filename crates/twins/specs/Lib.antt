@@ -15,3 +15,4 @@ pub mod AreSpans
 pub mod PartsView
 pub mod Settled
 pub mod RowCpus
+pub mod Differing

@@ -11,6 +11,7 @@
 mod alike;
 mod classes;
 mod dealing;
+mod differing;
 mod edges;
 mod grouping;
 mod holders;

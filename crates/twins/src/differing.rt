@@ -1,0 +1,69 @@
+//! The CPUs that two rows weigh otherwise.
+ghost use Rattle.std.specs.Prelude.{◌≡◌, ℕ, ◌≤◌, ◌<◌, false, IsTrue, IsFalse, length, slice_index_or};
+ghost use Rattle.std.specs.FinSet as set;
+ghost use Rattle.certificate.specs.Weight.{weight_in};
+ghost use Rattle.certificate.specs.declared.rows.Offer.{Offer};
+ghost use Rattle.twins.specs.Differing.{AddsOffer, AddsApart};
+
+use certificate::Offers;
+use cpu_set::IdSet;
+
+/// CPUs among which are all that two rows weigh otherwise. Where the weights of both rise, and rows have the same
+/// offers but for a few CPUs, these are all: offers of one weight are compared, and the CPUs of one alone are added.
+/// O(p + s) of p ranges and s sets that are made, two for each pair of offers that differ.
+pub(crate) fn differing(some: &Offers, others: &Offers) -> IdSet
+    ensures { (cpu : ℕ) → set.contains result cpu ≡ false → weight_in some.now cpu ≡ weight_in others.now cpu }
+{
+    let mut found = IdSet::empty();
+    let (count, other_count) = (some.len(), others.len());
+    let mut at = 0;
+    let mut other = 0;
+    while at < count || other < other_count {
+        if comes_first(some, at, others, other) {
+            add_offer(&mut found, some, at);
+            at += 1;
+        } else if comes_first(others, other, some, at) {
+            add_offer(&mut found, others, other);
+            other += 1;
+        } else {
+            add_apart(&mut found, some, at, others, other);
+            at += 1;
+            other += 1;
+        }
+    }
+    found
+}
+
+/// Whether there is an offer at a place of the first list, and at the other's either none or one that weighs more.
+fn comes_first(some: &Offers, at: usize, others: &Offers, other: usize) -> bool
+    ensures there { IsTrue result → at < length some.now }
+    ensures none { IsFalse result → at < length some.now → (other < length others.now)
+        × ((d : Offer) → (slice_index_or others.now other d).weight ≤ (slice_index_or some.now at d).weight) }
+{
+    if at >= some.len() {
+        return false;
+    }
+    other >= others.len() || some.weight(at) < others.weight(other)
+}
+
+/// Adds the CPUs of an offer.
+fn add_offer(found: &mut IdSet, offers: &Offers, at: usize)
+    requires { at < length offers.now }
+    ensures { AddsOffer offers.now at found.old found.new }
+{
+    *found = found.union(&offers.offer(at).cpus);
+}
+
+/// Adds the CPUs that one of two offers has, and not the other.
+fn add_apart(found: &mut IdSet, some: &Offers, at: usize, others: &Offers, other: usize)
+    requires first { at < length some.now }
+    requires second { other < length others.now }
+    ensures { AddsApart some.now at others.now other found.old found.new }
+{
+    if some.ranges(at) == others.ranges(other) {
+        return;
+    }
+    let first = some.offer(at).cpus;
+    let second = others.offer(other).cpus;
+    *found = found.union(&first.minus(&second)).union(&second.minus(&first));
+}
