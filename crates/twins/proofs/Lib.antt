@@ -19,3 +19,4 @@ pub mod Placed
 pub mod SettledCpus
 pub mod RowCpus
 pub mod Unlike
+pub mod Separating

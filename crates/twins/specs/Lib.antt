@@ -16,3 +16,4 @@ pub mod PartsView
 pub mod Settled
 pub mod RowCpus
 pub mod Differing
+pub mod Separates
