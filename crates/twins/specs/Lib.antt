@@ -17,3 +17,4 @@ pub mod Settled
 pub mod RowCpus
 pub mod Differing
 pub mod Separates
+pub mod SlotsView

@@ -20,6 +20,7 @@ pub mod laws;
 mod parts;
 mod pricing;
 mod settling;
+mod slots;
 mod span_list;
 mod spans;
 
