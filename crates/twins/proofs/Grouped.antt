@@ -1,20 +1,26 @@
 -- Classes of twins: sets that all rows have split.
-use Rattle.std.proofs.Common.{◌≡◌, ℕ, ◌+◌, ◌<◌, Bool, true, false, cond, ◌||◌, is_some, List, [], ◌∷◌, ◌++◌, length, take, get_or, refl, sym, ap, subst, ◌∙◌, inl, inr, arith}
+use Rattle.std.proofs.Common.{◌≡◌, ◌⊎◌, ℕ, zero, suc, ◌+◌, ◌<◌, ◌≤◌, ◌==◌, Bool, true, false, cond, ◌||◌, is_some, List, [], ◌∷◌, ◌++◌, length, take, drop, get_or, refl, sym, ap, subst, ◌∙◌, inl, inr, arith}
 use Rattle.std.specs.FinSet as set
 use Rattle.std.specs.List.{All}
-use Rattle.std.proofs.lemmas.List.{take_all, take_more}
-use Rattle.std.proofs.lemmas.List.Elements.{All-nil, All-cons, All-head, All-tail, All-append, All-same}
-use Rattle.std.proofs.lemmas.List.Sums.{sum_by-append, sum_by_push, sum_by-cons}
+use Rattle.std.proofs.lemmas.Bool.{cases_lt, cases_eq, eqb-true, false_from_ne_true}
+use Rattle.std.proofs.lemmas.Grind.{get_or-set_at}
+use Rattle.std.proofs.lemmas.List.{take_all, get_or_default, get_or-set_other}
+use Rattle.std.proofs.lemmas.List.Elements.{All-nil, All-cons, All-head, All-tail, All-push, All-set}
+use Rattle.std.proofs.lemmas.List.Sums.{sum_by_push, sum_by-cons, sum_by-drop_more, sum_by-set}
 use Rattle.cpu_set.specs.Ids.{Ids}
 use Rattle.cpu_set.specs.Members.{InRange}
+use Rattle.cpu_set.specs.PointwiseLaws.{contains-empty}
 use Rattle.certificate.specs.RowView.{RowView}
 use Rattle.certificate.specs.Weight.{weight}
 use Rattle.certificate.specs.IsDealt.{AreTwins}
 use Rattle.certificate.specs.IsShortage.{is_offered}
 use Rattle.twins.specs.IsGrouping.{IsGrouping}
-use Rattle.twins.specs.IsPart.{IsPart, IsUnsplit, ArePieces, IsSplit, times_in}
+use Rattle.twins.specs.IsPart.{IsPart, IsUnsplit, times_in}
+use Rattle.twins.specs.OnWay.{AreLooked, AreOnWay, IsLooked, IsMovedOut, IsOpenSlot, IsSlot, IsSplitAt}
+use Rattle.twins.specs.Separates.{IsApart, Separates}
+use Rattle.twins.specs.SlotsView.{AreNamed, times_named}
 use Rattle.twins.proofs.Sets.{there, empty_contains}
-use Rattle.twins.proofs.Splitting.{twins_before}
+use Rattle.twins.proofs.Splitting.{open_of_next, open_of_part, twins_before}
 use Rattle.twins.proofs.Times.{apart_of_times, is_held_of_times, in_times}
 
 -- twins have a weight in the same rows
@@ -55,30 +61,10 @@ all_in_one rows all in_range some offered = record {
   whole = λ a b in_a twins offered_b. offered b ∙ offered_b;
 }
 
--- one set more is split
-pub pieces_more :
-    (rows : List RowView) (k i : ℕ) (sets : List Ids) (part : Ids) (alone parts_mid alone_mid parts_new alone_new : List Ids)
-    → i < length sets → part ≡ get_or sets i part → ArePieces rows k (take i sets) alone parts_mid alone_mid
-    → IsSplit rows k part parts_mid alone_mid parts_new alone_new → ArePieces rows k (take (i + 1) sets) alone parts_new alone_new
-pieces_more rows k i sets part alone parts_mid alone_mid parts_new alone_new lt is so_far split = record {
-  parts = split.parts;
-  lone = split.lone;
-  same = λ c.
-      let more : times_in (take (i + 1) sets) c ≡ times_in (take i sets) c + cond (set.contains part c) 1 0 =
-      rw (take_more sets i part lt, ← is) (sum_by_push (λ (t : Ids). cond (set.contains t c) 1 0) (take i sets) part) in
-      omega (arith, split.same c, so_far.same c, more);
-}
-
--- the sets on the way to classes, before row k
-pub record Grouping (rows : List RowView) (k : ℕ) (parts alone : List Ids) : Type 0 where
-  pub open_parts : All (IsPart rows k) parts
-  pub lone : All (IsPart rows (length rows)) alone
-  pub once : (c : ℕ) → times_in parts c + times_in alone c ≡ cond (is_offered rows c) 1 0
-
 -- before any row: the CPUs with a weight are in one set, where there are any
-pub grouping_start :
-    (rows : List RowView) (all : Ids) (parts none : List Ids) → none ≡ [] → IsUnsplit all parts → ((c : ℕ) → set.contains all c ≡ is_offered rows c) → Grouping rows 0 parts none
-grouping_start rows all parts none none_is unsplit offered = rw none_is (by_cases unsplit)
+pub way_start :
+    (rows : List RowView) (all : Ids) (sets none : List Ids) → none ≡ [] → IsUnsplit all sets → ((c : ℕ) → set.contains all c ≡ is_offered rows c) → AreOnWay rows 0 sets none
+way_start rows all sets none none_is unsplit offered = rw none_is (by_cases unsplit)
   where
     nothing : (b : Bool) → b ≡ false → 0 + 0 ≡ cond {A = ℕ} b 1 0
     nothing b e = ap (λ t. cond {A = ℕ} t 1 0) (sym e)
@@ -86,50 +72,159 @@ grouping_start rows all parts none none_is unsplit offered = rw none_is (by_case
     plus_none : (n : ℕ) → n + 0 + 0 ≡ n
     plus_none n = omega arith
 
-    by_cases : IsUnsplit all parts → Grouping rows 0 parts []
+    by_cases : IsUnsplit all sets → AreOnWay rows 0 sets []
     by_cases (inl empty) = rw empty.1 (record {
-      open_parts = All-nil (IsPart rows 0);
+      each = All-nil (IsSlot rows 0);
       lone = λ j d lt. absurd (omega arith);
       once = λ c. nothing (is_offered rows c) (sym (offered c) ∙ empty_contains all c empty.0);
     })
     by_cases (inr some) = rw some.2 (record {
-      open_parts = All-cons (IsPart rows 0) all [] (all_in_one rows all some.1 some.0 offered) (All-nil (IsPart rows 0));
+      each = All-cons (IsSlot rows 0) all [] (inr (all_in_one rows all some.1 some.0 offered)) (All-nil (IsSlot rows 0));
       lone = λ j d lt. absurd (omega arith);
       once = λ c.
           ap (λ n. n + 0) (sum_by-cons (λ (t : Ids). cond (set.contains t c) 1 0) all []) ∙ plus_none _ ∙ ap (λ b. cond {A = ℕ} b 1 0) (offered c);
     })
 
-pub grouping_more :
-    (rows : List RowView) (k : ℕ) (parts alone parts_new alone_new : List Ids) → Grouping rows k parts alone
-    → ArePieces rows (k + 1) parts alone parts_new alone_new → Grouping rows (k + 1) parts_new alone_new
-grouping_more rows k parts alone parts_new alone_new so_far pieces = record {
-  open_parts = pieces.parts;
-  lone = pieces.lone;
-  once = λ c. omega (arith, pieces.same c, so_far.once c);
-}
-
 -- a row that tells no more CPUs apart splits no set
-pub grouping_repeated :
-    (rows : List RowView) (k : ℕ) (parts alone : List Ids) → ((a b : ℕ) → AreTwins (take k rows) a b → AreTwins (take (k + 1) rows) a b)
-    → Grouping rows k parts alone → Grouping rows (k + 1) parts alone
-grouping_repeated rows k parts alone still so_far = record {
-  open_parts = λ j d lt.
-      let part : IsPart rows k (get_or parts j d) = so_far.open_parts j d lt in
-      record {
-        in_range = part.in_range;
-        some = part.some;
-        alike = λ a b in_a in_b. still a b (part.alike a b in_a in_b);
-        whole = λ a b in_a twins offered. part.whole a b in_a (twins_before rows k (k + 1) a b (omega arith) twins) offered;
-      };
+pub way_repeated :
+    (rows : List RowView) (k : ℕ) (sets alone : List Ids) → ((a b : ℕ) → AreTwins (take k rows) a b → AreTwins (take (k + 1) rows) a b)
+    → AreOnWay rows k sets alone → AreOnWay rows (k + 1) sets alone
+way_repeated rows k sets alone still so_far = record {
+  each = λ j d lt. slot (get_or sets j d) (so_far.each j d lt);
   lone = so_far.lone;
   once = so_far.once;
 }
+  where
+    slot : (s : Ids) → IsSlot rows k s → IsSlot rows (k + 1) s
+    slot s (inl taken) = inl taken
+    slot s (inr part) = inr (record {
+      in_range = part.in_range;
+      some = part.some;
+      alike = λ a b in_a in_b. still a b (part.alike a b in_a in_b);
+      whole = λ a b in_a twins offered. part.whole a b in_a (twins_before rows k (k + 1) a b (omega arith) twins) offered;
+    })
 
--- both lists together are the classes
-pub grouping_end :
-    (rows : List RowView) (k : ℕ) (parts alone sets : List Ids) → k ≡ length rows → Grouping rows k parts alone → sets ≡ alone ++ parts → IsGrouping rows sets
-grouping_end rows k parts alone sets all so_far is =
-    let open_all : All (IsPart rows (length rows)) parts = subst (λ n. All (IsPart rows n) parts) all so_far.open_parts in
-    grouping rows sets
-    (All-same (IsPart rows (length rows)) sets (alone ++ parts) is (All-append (IsPart rows (length rows)) alone parts so_far.lone open_all))
-    (λ c. ap (λ l. times_in l c) is ∙ sum_by-append (λ (t : Ids). cond (set.contains t c) 1 0) alone parts ∙ omega (arith, so_far.once c))
+-- before the row: a set that has none of the CPUs outside of which the row splits nothing is not split, and all others are named
+pub looked_start :
+    (rows : List RowView) (k : ℕ) (cpus : Ids) (named : List (ℕ × ℕ)) (sets alone : List Ids) → AreOnWay rows k sets alone → AreNamed sets cpus named → Separates rows k cpus
+    → AreLooked rows k named sets alone
+looked_start rows k cpus named sets alone so_far names separates = record {
+  each = λ at d lt. slot at d lt (so_far.each at d lt);
+  lone = so_far.lone;
+  once = so_far.once;
+}
+  where
+    apart : (at : ℕ) (d : Ids) → at < length sets → times_named at named ≡ 0 → IsApart (get_or sets at d) cpus
+    apart at d lt none cpu has =
+        let here : set.contains (get_or sets at set.empty) cpu ≡ true = ap (λ s. set.contains s cpu) (get_or_default sets at set.empty d lt) ∙ has in
+        false_from_ne_true (set.contains cpus cpu) (λ both. absurd (omega (arith, none, names at cpu here both)))
+
+    slot : (at : ℕ) (d : Ids) → at < length sets → IsSlot rows k (get_or sets at d) → IsLooked rows k named at (get_or sets at d)
+    slot at d lt (inl taken) = inl (inl taken)
+    slot at d lt (inr part) = elim (cases_lt 0 (times_named at named)) [
+      | inl some ↦ inr (inr (open_of_part rows k (get_or sets at d) part), some)
+      | inr none ↦ inl (inr (separates (get_or sets at d) part (apart at d lt (omega (arith, none)))))
+    ]
+
+-- a set that is named may be looked at
+pub slot_open : (rows : List RowView) (k : ℕ) (named : List (ℕ × ℕ)) (at : ℕ) (s : Ids) → IsLooked rows k named at s → IsOpenSlot rows k s
+slot_open rows k named at s (inl (inl taken)) = inl taken
+slot_open rows k named at s (inl (inr part)) = inr (open_of_next rows k s part)
+slot_open rows k named at s (inr yet) = yet.0
+
+-- the set at one name has been looked at
+pub looked_more :
+    (rows : List RowView) (k t at : ℕ) (d : ℕ × ℕ) (all : List (ℕ × ℕ)) (sets alone sets_new alone_new : List Ids) → t < length all → (get_or all t d).1 ≡ at
+    → AreLooked rows k (drop t all) sets alone → IsSplitAt rows (k + 1) at sets alone sets_new alone_new → AreLooked rows k (drop (t + 1) all) sets_new alone_new
+looked_more rows k t at d all sets alone sets_new alone_new lt is so_far split = record {
+  each = λ q e within. elim (cases_lt q (length sets)) [
+    | inl before ↦ elim (cases_eq q at) [
+      | inl here ↦ inl (subst (λ x. IsSlot rows (k + 1) (get_or sets_new x e)) (sym here) (split.here e))
+      | inr differs ↦ subst (IsLooked rows k (drop (t + 1) all) q) (sym (split.others q e before differs)) (still q differs (get_or sets q e) (so_far.each q e before))
+    ]
+    | inr behind ↦ inl (split.more q e behind within)
+  ];
+  lone = split.lone;
+  once = λ c. split.same c ∙ so_far.once c;
+}
+  where
+    not_here : (q : ℕ) → (q ≡ at → ⊥) → cond {A = ℕ} ((get_or all t d).1 == q) 1 0 ≡ 0
+    not_here q differs = ap (λ b. cond {A = ℕ} b 1 0) (false_from_ne_true ((get_or all t d).1 == q) (λ e. differs (sym (sym is ∙ eqb-true (get_or all t d).1 q e))))
+
+    still : (q : ℕ) → (q ≡ at → ⊥) → (s : Ids) → IsLooked rows k (drop t all) q s → IsLooked rows k (drop (t + 1) all) q s
+    still q differs s (inl done) = inl done
+    still q differs s (inr yet) = inr (yet.0, omega (arith, yet.1, not_here q differs, sum_by-drop_more (λ (x : ℕ × ℕ). cond {A = ℕ} (x.1 == q) 1 0) all t d lt))
+
+-- all that were named have been looked at
+pub looked_end : (rows : List RowView) (k : ℕ) (named : List (ℕ × ℕ)) (sets alone : List Ids) → named ≡ [] → AreLooked rows k named sets alone → AreOnWay rows (k + 1) sets alone
+looked_end rows k named sets alone none so_far = record {
+  each = λ at d lt. slot at (get_or sets at d) (so_far.each at d lt);
+  lone = so_far.lone;
+  once = so_far.once;
+}
+  where
+    slot : (at : ℕ) (s : Ids) → IsLooked rows k named at s → IsSlot rows (k + 1) s
+    slot at s (inl done) = done
+    slot at s (inr yet) = absurd (omega (arith, yet.1, ap (times_named at) none))
+
+-- a set has become a class
+pub way_moved :
+    (rows : List RowView) (at : ℕ) (sets classes sets_new classes_new : List Ids) → at < length sets → IsMovedOut at sets classes sets_new classes_new
+    → AreOnWay rows (length rows) sets classes → AreOnWay rows (length rows) sets_new classes_new
+way_moved rows at sets classes sets_new classes_new lt moved so_far = by_cases (moved.added set.empty)
+  where
+    here : Ids
+    here = get_or sets at set.empty
+
+    each : All (IsSlot rows (length rows)) sets_new
+    each = rw moved.left (All-set (IsSlot rows (length rows)) sets at set.empty (inl refl) so_far.each)
+
+    left : (c : ℕ) → times_in sets_new c + cond (set.contains here c) 1 0 ≡ times_in sets c
+    left c =
+        ap (λ l. times_in l c + cond (set.contains here c) 1 0) moved.left
+        ∙ sum_by-set (λ (s : Ids). cond {A = ℕ} (set.contains s c) 1 0) sets at set.empty set.empty lt
+        ∙ ap (λ b. times_in sets c + cond {A = ℕ} b 1 0) (contains-empty c) ∙ plus_zero (times_in sets c)
+      where
+        plus_zero : (n : ℕ) → n + 0 ≡ n
+        plus_zero n = omega arith
+
+    is_there : IsSlot rows (length rows) here → (here ≡ set.empty → ⊥) → IsPart rows (length rows) here
+    is_there (inl taken) never = absurd (never taken)
+    is_there (inr part) never = part
+
+    by_cases : ((here ≡ set.empty) × (classes_new ≡ classes)) ⊎ ((here ≡ set.empty → ⊥) × (classes_new ≡ classes ++ here ∷ [])) → AreOnWay rows (length rows) sets_new classes_new
+    by_cases (inl none) = rw none.1 (record {
+      each = each;
+      lone = so_far.lone;
+      once = λ c. omega (arith, left c, so_far.once c, ap (λ s. cond {A = ℕ} (set.contains s c) 1 0) none.0, ap (λ b. cond {A = ℕ} b 1 0) (contains-empty c));
+    })
+    by_cases (inr more) = rw more.1 (record {
+      each = each;
+      lone = All-push (IsPart rows (length rows)) classes here so_far.lone (is_there (so_far.each at set.empty lt) more.0);
+      once = λ c. omega (arith, left c, so_far.once c, sum_by_push (λ (s : Ids). cond {A = ℕ} (set.contains s c) 1 0) classes here);
+    })
+
+-- what was taken out stays so
+pub none_moved :
+    (sets sets_new : List Ids) (at : ℕ) (classes classes_new : List Ids) → at < length sets → IsMovedOut at sets classes sets_new classes_new
+    → ((q : ℕ) → q < at → get_or sets q set.empty ≡ set.empty) → (q : ℕ) → q < at + 1 → get_or sets_new q set.empty ≡ set.empty
+none_moved sets sets_new at classes classes_new lt moved before q le = ap (λ l. get_or l q set.empty) moved.left ∙ (elim (cases_lt q at) [
+  | inl less ↦ get_or-set_other sets at q set.empty set.empty (λ e. omega (arith, less, e)) ∙ before q less
+  | inr here ↦ get_or-set_at sets at q set.empty set.empty (omega (arith, here, le)) lt
+])
+
+none_in : (sets : List Ids) (c : ℕ) → ((q : ℕ) → q < length sets → get_or sets q set.empty ≡ set.empty) → times_in sets c ≡ 0
+none_in [] c none = refl
+none_in (s ∷ sets) c none =
+    omega (
+      arith,
+      sum_by-cons (λ (t : Ids). cond {A = ℕ} (set.contains t c) 1 0) s sets,
+      ap (λ t. cond {A = ℕ} (set.contains t c) 1 0) (none 0 (omega arith)),
+      ap (λ b. cond {A = ℕ} b 1 0) (contains-empty c),
+      none_in sets c (λ q lt. none (suc q) (omega arith)),
+    )
+
+-- no set is left: what is alone are the classes
+pub way_end :
+    (rows : List RowView) (sets classes : List Ids) → AreOnWay rows (length rows) sets classes → ((q : ℕ) → q < length sets → get_or sets q set.empty ≡ set.empty) → IsGrouping rows classes
+way_end rows sets classes so_far none = grouping rows classes so_far.lone (λ c. omega (arith, so_far.once c, none_in sets c none))

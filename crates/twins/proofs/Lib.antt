@@ -15,8 +15,10 @@ pub mod Closing
 pub mod Few
 pub mod SameOffers
 pub mod Ends
-pub mod Placed
 pub mod SettledCpus
 pub mod RowCpus
 pub mod Unlike
 pub mod Separating
+pub mod Walks
+pub mod SlotSets
+pub mod SlotSplits

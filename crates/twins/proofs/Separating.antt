@@ -6,20 +6,9 @@ use Rattle.cpu_set.specs.Ids.{Ids}
 use Rattle.certificate.specs.RowView.{RowView}
 use Rattle.certificate.specs.Weight.{weight}
 use Rattle.certificate.specs.IsDealt.{AreTwins}
-use Rattle.twins.specs.IsPart.{IsPart}
 use Rattle.twins.specs.Separates.{IsApart, Separates}
 use Rattle.twins.proofs.SameOffers.{row_at, is_row, no_row}
-use Rattle.twins.proofs.Splitting.{twins_before, twins_more}
-
--- a part of which all CPUs weigh the same to the row
-pub whole_part : (rows : List RowView) (k : ℕ) (s : Ids) → k < length rows → IsPart rows k s
-    → ((a b : ℕ) → set.contains s a ≡ true → set.contains s b ≡ true → weight (row_at rows k) a ≡ weight (row_at rows k) b) → IsPart rows (k + 1) s
-whole_part rows k s lt part same = record {
-  in_range = part.in_range;
-  some = part.some;
-  alike = λ a b in_a in_b. twins_more rows k a b (row_at rows k) lt (is_row rows k lt) (part.alike a b in_a in_b) (same a b in_a in_b);
-  whole = λ a b in_a twins offered. part.whole a b in_a (twins_before rows k (k + 1) a b (omega arith) twins) offered;
-}
+use Rattle.twins.proofs.Splitting.{open_of_part, whole_part}
 
 twins_of : (rows : List RowView) (k j a b : ℕ) → j < k → k < length rows → AreTwins (take k rows) a b → weight (row_at rows j) a ≡ weight (row_at rows j) b
 twins_of rows k j a b before lt twins =
@@ -30,13 +19,13 @@ twins_of rows k j a b before lt twins =
 pub by_earlier : (rows : List RowView) (k j : ℕ) (cpus : Ids) → j < k → k < length rows
     → ((cpu : ℕ) → set.contains cpus cpu ≡ false → weight (row_at rows j) cpu ≡ weight (row_at rows k) cpu) → Separates rows k cpus
 by_earlier rows k j cpus before lt same s part apart =
-    whole_part rows k s lt part (λ a b in_a in_b.
+    whole_part rows k (row_at rows k) s lt (is_row rows k lt) (open_of_part rows k s part) (λ a b in_a in_b.
     sym (same a (apart a in_a)) ∙ twins_of rows k j a b before lt (part.alike a b in_a in_b) ∙ same b (apart b in_b))
 
 -- the row's own CPUs
 pub by_own : (rows : List RowView) (k : ℕ) (cpus : Ids) → k < length rows → ((cpu : ℕ) → set.contains cpus cpu ≡ is_some (weight (row_at rows k) cpu)) → Separates rows k cpus
 by_own rows k cpus lt own s part apart =
-    whole_part rows k s lt part (λ a b in_a in_b. nothing a in_a ∙ sym (nothing b in_b))
+    whole_part rows k (row_at rows k) s lt (is_row rows k lt) (open_of_part rows k s part) (λ a b in_a in_b. nothing a in_a ∙ sym (nothing b in_b))
   where
     no_weight : (w : Option ℕ) → is_some w ≡ false → w ≡ None
     no_weight None e = refl

@@ -13,7 +13,7 @@ use Rattle.certificate.specs.Weight.{weight, weight_in}
 use Rattle.certificate.specs.IsDealt.{AreTwins}
 use Rattle.certificate.specs.declared.rows.Offer.{Offer}
 use Rattle.twins.specs.AreSpans.{AreSpans}
-use Rattle.twins.specs.IsPart.{IsPart}
+use Rattle.twins.specs.IsPart.{IsPart, IsOpen}
 use Rattle.twins.specs.Kinds.{offers_of, IsKindOf}
 use Rattle.twins.specs.Settled.{AreOnce, AreSettled, IsSettling, IsNoted, IsTurned}
 use Rattle.twins.specs.declared.settling.Settling.{Settling}
@@ -119,7 +119,7 @@ settling_turned rows k old new h t = record {
 }
 
 -- the CPUs of a part with a settled one are alike to the next row
-pub settled_alike : (rows : List RowView) (k : ℕ) (row : RowView) (part : Ids) (cpu : ℕ) (s : Settling) → k < length rows → row ≡ get_or rows k row → IsPart rows k part → IsSettling rows k s
+pub settled_alike : (rows : List RowView) (k : ℕ) (row : RowView) (part : Ids) (cpu : ℕ) (s : Settling) → k < length rows → row ≡ get_or rows k row → IsOpen rows k part → IsSettling rows k s
     → set.contains s.settled cpu ≡ true → set.contains part cpu ≡ true → (a b : ℕ) → set.contains part a ≡ true → set.contains part b ≡ true → weight row a ≡ weight row b
 settled_alike rows k row part cpu s lt is is_part h on has a b in_a in_b = sym (as_cpu a in_a) ∙ as_cpu b in_b
   where

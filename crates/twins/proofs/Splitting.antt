@@ -15,7 +15,7 @@ use Rattle.certificate.specs.Weight.{weight}
 use Rattle.certificate.specs.IsDealt.{AreTwins}
 use Rattle.certificate.specs.IsShortage.{is_offered}
 use Rattle.twins.specs.Edges.{AreEdges, IsRun}
-use Rattle.twins.specs.IsPart.{is_same_weight, IsPart, IsSplit, IsPutTo, times_in}
+use Rattle.twins.specs.IsPart.{is_same_weight, IsPart, IsOpen, IsPutTo, times_in}
 use Rattle.twins.proofs.Weights.{same_says, same_itself}
 use Rattle.twins.proofs.Sets.{some_of_member, len_split}
 use Rattle.twins.proofs.Times.{times_put}
@@ -41,6 +41,29 @@ twins_at rows k a b row lt is twins =
     let same : get_or (take (k + 1) rows) k row ≡ row = get_or-take (k + 1) rows k row (omega arith) ∙ sym is in
     subst (λ (r : RowView). weight r a ≡ weight r b) same here
 
+-- a part is one that a row more may split, or not
+pub open_of_part : (rows : List RowView) (k : ℕ) (s : Ids) → IsPart rows k s → IsOpen rows k s
+open_of_part rows k s part = record {
+  in_range = part.in_range;
+  some = part.some;
+  alike = part.alike;
+  whole = λ a b in_a twins offered. part.whole a b in_a (twins_before rows k (k + 1) a b (omega arith) twins) offered;
+}
+
+pub open_of_next : (rows : List RowView) (k : ℕ) (s : Ids) → IsPart rows (k + 1) s → IsOpen rows k s
+open_of_next rows k s part = record {
+  in_range = part.in_range;
+  some = part.some;
+  alike = λ a b in_a in_b. twins_before rows k (k + 1) a b (omega arith) (part.alike a b in_a in_b);
+  whole = part.whole;
+}
+
+-- one set has become parts, in either list
+pub record IsSplit (rows : List RowView) (k : ℕ) (part : Ids) (parts_old alone_old parts_new alone_new : List Ids) : Type 0 where
+  pub parts : All (IsPart rows k) parts_new
+  pub lone : All (IsPart rows (length rows)) alone_new
+  pub same : (cpu : ℕ) → times_in parts_new cpu + times_in alone_new cpu ≡ times_in parts_old cpu + times_in alone_old cpu + cond (set.contains part cpu) 1 0
+
 -- what is left of a set while it is split, and what was split off
 pub record Splitting (rows : List RowView) (k : ℕ) (part rest : Ids) (parts_old alone_old parts_new alone_new : List Ids) : Type 0 where
   pub within : (c : ℕ) → set.contains rest c ≡ true → set.contains part c ≡ true
@@ -52,11 +75,11 @@ pub record Splitting (rows : List RowView) (k : ℕ) (part rest : Ids) (parts_ol
 
 -- at first all of the set is left
 pub splitting_start :
-    (rows : List RowView) (k : ℕ) (part : Ids) (parts alone : List Ids) → IsPart rows k part → All (IsPart rows (k + 1)) parts → All (IsPart rows (length rows)) alone
+    (rows : List RowView) (k : ℕ) (part : Ids) (parts alone : List Ids) → IsOpen rows k part → All (IsPart rows (k + 1)) parts → All (IsPart rows (length rows)) alone
     → Splitting rows (k + 1) part part parts alone parts alone
 splitting_start rows k part parts alone is_part all lone = record {
   within = λ c here. here;
-  whole = λ a b here twins offered. is_part.whole a b here (twins_before rows k (k + 1) a b (omega arith) twins) offered;
+  whole = is_part.whole;
   parts = all;
   lone = lone;
   same = λ c. refl;
@@ -93,7 +116,7 @@ to_piece row cpu rest piece alike q has same =
 -- the piece is a part that the row does not tell apart
 pub piece_is_part :
     (rows : List RowView) (k cpu : ℕ) (row : RowView) (part rest piece : Ids) (parts_old alone_old parts_new alone_new : List Ids)
-    → k < length rows → row ≡ get_or rows k row → IsPart rows k part → Splitting rows (k + 1) part rest parts_old alone_old parts_new alone_new
+    → k < length rows → row ≡ get_or rows k row → IsOpen rows k part → Splitting rows (k + 1) part rest parts_old alone_old parts_new alone_new
     → set.contains rest cpu ≡ true → IsAlike row cpu rest piece → IsPart rows (k + 1) piece
 piece_is_part rows k cpu row part rest piece parts_old alone_old parts_new alone_new lt is is_part splitting has alike = record {
   in_range = λ n here. is_part.in_range n (splitting.within n (in_piece row cpu rest piece alike n here).0);
@@ -162,7 +185,7 @@ one_of_both false false s within e = rw e (omega arith)
 -- a piece that has some of the rest leaves less of it
 pub less_left :
     (rows : List RowView) (k cpu : ℕ) (row : RowView) (part rest piece rest_new : Ids) (parts_old alone_old parts_new alone_new : List Ids)
-    → IsPart rows k part → Splitting rows (k + 1) part rest parts_old alone_old parts_new alone_new
+    → IsOpen rows k part → Splitting rows (k + 1) part rest parts_old alone_old parts_new alone_new
     → set.contains rest cpu ≡ true → IsAlike row cpu rest piece → rest_new ≡ set.difference rest piece → set.len rest_new < set.len rest
 less_left rows k cpu row part rest piece rest_new parts_old alone_old parts_new alone_new is_part splitting has alike left =
     let some : 0 < set.len (set.intersection rest piece) =
@@ -172,7 +195,7 @@ less_left rows k cpu row part rest piece rest_new parts_old alone_old parts_new 
 -- one piece more is split off
 pub splitting_more :
     (rows : List RowView) (k cpu : ℕ) (row : RowView) (edges part rest piece rest_new : Ids) (parts_old alone_old parts alone parts_new alone_new : List Ids)
-    → k < length rows → row ≡ get_or rows k row → AreEdges rows edges → IsPart rows k part → Splitting rows (k + 1) part rest parts_old alone_old parts alone
+    → k < length rows → row ≡ get_or rows k row → AreEdges rows edges → IsOpen rows k part → Splitting rows (k + 1) part rest parts_old alone_old parts alone
     → set.contains rest cpu ≡ true → IsAlike row cpu rest piece → IsPutTo edges piece parts alone parts_new alone_new → rest_new ≡ set.difference rest piece
     → Splitting rows (k + 1) part rest_new parts_old alone_old parts_new alone_new
 splitting_more rows k cpu row edges part rest piece rest_new parts_old alone_old parts alone parts_new alone_new lt is are is_part splitting has alike put left =
@@ -205,25 +228,14 @@ splitting_more rows k cpu row edges part rest piece rest_new parts_old alone_old
     not_is false never = refl
 
 -- a set that the row does not tell apart stays whole
-pub unsplit :
-    (rows : List RowView) (k : ℕ) (row : RowView) (part : Ids) (parts alone parts_new : List Ids) → k < length rows → row ≡ get_or rows k row
-    → IsPart rows k part → All (IsPart rows (k + 1)) parts → All (IsPart rows (length rows)) alone
-    → ((a b : ℕ) → set.contains part a ≡ true → set.contains part b ≡ true → weight row a ≡ weight row b)
-    → parts_new ≡ parts ++ part ∷ [] → IsSplit rows (k + 1) part parts alone parts_new alone
-unsplit rows k row part parts alone parts_new lt is is_part all lone same added = record {
-  parts = rw added (All-push (IsPart rows (k + 1)) parts part all whole);
-  lone = lone;
-  same = λ c. (let more : times_in parts_new c ≡ times_in parts c + cond (set.contains part c) 1 0 = ap (λ l. times_in l c) added ∙ sum_by_push (λ (s : Ids). cond (set.contains s c) 1 0) parts part in
-      omega (arith, more));
+pub whole_part : (rows : List RowView) (k : ℕ) (row : RowView) (s : Ids) → k < length rows → row ≡ get_or rows k row → IsOpen rows k s
+    → ((a b : ℕ) → set.contains s a ≡ true → set.contains s b ≡ true → weight row a ≡ weight row b) → IsPart rows (k + 1) s
+whole_part rows k row s lt is part same = record {
+  in_range = part.in_range;
+  some = part.some;
+  alike = λ a b in_a in_b. twins_more rows k a b row lt is (part.alike a b in_a in_b) (same a b in_a in_b);
+  whole = part.whole;
 }
-  where
-    whole : IsPart rows (k + 1) part
-    whole = record {
-      in_range = is_part.in_range;
-      some = is_part.some;
-      alike = λ a b in_a in_b. twins_more rows k a b row lt is (is_part.alike a b in_a in_b) (same a b in_a in_b);
-      whole = λ a b in_a twins offered. is_part.whole a b in_a (twins_before rows k (k + 1) a b (omega arith) twins) offered;
-    }
 
 -- no member is below the first one
 pub not_below : (s : Ids) (first : ℕ) → IsFirstFrom s 0 first → (q : ℕ) → set.contains s q ≡ true → first ≤ q

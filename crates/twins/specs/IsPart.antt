@@ -1,5 +1,5 @@
 -- Sets of CPUs on the way to classes of twins: CPUs that the first rows do not tell apart.
-use Rattle.std.specs.Prelude.{◌≡◌, ℕ, ◌+◌, ◌<◌, ◌==◌, Bool, true, false, cond, ◌⊎◌, Option, Some, None, List, [], ◌∷◌, ◌++◌, All, take, length, sum_by}
+use Rattle.std.specs.Prelude.{◌≡◌, ℕ, ◌+◌, ◌<◌, ◌==◌, Bool, true, false, cond, ◌⊎◌, Option, Some, None, List, [], ◌∷◌, ◌++◌, take, sum_by}
 use Rattle.std.specs.FinSet as set
 use Rattle.cpu_set.specs.Ids.{Ids}
 use Rattle.cpu_set.specs.Members.{InRange}
@@ -22,6 +22,14 @@ pub record IsPart (rows : List RowView) (k : ℕ) (s : Ids) : Type 0 where
   pub alike : (a b : ℕ) → set.contains s a ≡ true → set.contains s b ≡ true → AreTwins (take k rows) a b
   pub whole : (a b : ℕ) → set.contains s a ≡ true → AreTwins (take k rows) a b → is_offered rows b ≡ true → set.contains s b ≡ true
 
+-- some CPUs that are twins to the first k rows, with all of them that are twins to one row more and have a weight at all. A part of the first k
+-- rows is so, and a part of the first k + 1 too.
+pub record IsOpen (rows : List RowView) (k : ℕ) (s : Ids) : Type 0 where
+  pub in_range : InRange s
+  pub some : 0 < set.len s
+  pub alike : (a b : ℕ) → set.contains s a ≡ true → set.contains s b ≡ true → AreTwins (take k rows) a b
+  pub whole : (a b : ℕ) → set.contains s a ≡ true → AreTwins (take (k + 1) rows) a b → is_offered rows b ≡ true → set.contains s b ≡ true
+
 -- how many of the sets have the CPU
 abbrev pub times_in : List Ids → ℕ → ℕ
 times_in sets cpu = sum_by (λ s. cond (set.contains s cpu) 1 0) sets
@@ -30,20 +38,8 @@ times_in sets cpu = sum_by (λ s. cond (set.contains s cpu) 1 0) sets
 abbrev pub IsUnsplit : Ids → List Ids → Type 0
 IsUnsplit all sets = ((set.len all ≡ 0) × (sets ≡ [])) ⊎ ((0 < set.len all) × InRange all × (sets ≡ all ∷ []))
 
--- sets that the first k rows do not tell apart, some of them alone by all rows, have the CPUs of other sets, each as often
-pub record ArePieces (rows : List RowView) (k : ℕ) (sets alone parts_new alone_new : List Ids) : Type 0 where
-  pub parts : All (IsPart rows k) parts_new
-  pub lone : All (IsPart rows (length rows)) alone_new
-  pub same : (cpu : ℕ) → times_in parts_new cpu + times_in alone_new cpu ≡ times_in sets cpu + times_in alone cpu
-
--- the same, with one set split and its pieces added to either list
-pub record IsSplit (rows : List RowView) (k : ℕ) (part : Ids) (parts_old alone_old parts_new alone_new : List Ids) : Type 0 where
-  pub parts : All (IsPart rows k) parts_new
-  pub lone : All (IsPart rows (length rows)) alone_new
-  pub same : (cpu : ℕ) → times_in parts_new cpu + times_in alone_new cpu ≡ times_in parts_old cpu + times_in alone_old cpu + cond (set.contains part cpu) 1 0
-
 -- the set is added to the first list, or to the second, and then it is a run
 abbrev pub IsPutTo : Ids → Ids → List Ids → List Ids → List Ids → List Ids → Type 0
-IsPutTo edges piece parts_old alone_old parts_new alone_new =
-    ((parts_new ≡ parts_old ++ piece ∷ []) × (alone_new ≡ alone_old))
-    ⊎ ((parts_new ≡ parts_old) × (alone_new ≡ alone_old ++ piece ∷ []) × IsRun edges piece)
+IsPutTo edges piece sets_old alone_old sets_new alone_new =
+    ((sets_new ≡ sets_old ++ piece ∷ []) × (alone_new ≡ alone_old))
+    ⊎ ((sets_new ≡ sets_old) × (alone_new ≡ alone_old ++ piece ∷ []) × IsRun edges piece)

@@ -12,7 +12,7 @@ pub mod KindLaws
 pub mod Edges
 pub mod SpanCode
 pub mod AreSpans
-pub mod PartsView
+pub mod OnWay
 pub mod Settled
 pub mod RowCpus
 pub mod Differing

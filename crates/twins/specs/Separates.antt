@@ -1,4 +1,4 @@
--- Which parts a row may split.
+-- Which sets on the way to classes a row may split.
 use Rattle.std.specs.Prelude.{◌≡◌, ℕ, ◌+◌, true, false, List}
 use Rattle.std.specs.FinSet as set
 use Rattle.cpu_set.specs.Ids.{Ids}

@@ -7,7 +7,7 @@ ghost use Rattle.certificate.specs.Weight.{weight_in};
 ghost use Rattle.certificate.specs.Limits.{offers_fit};
 ghost use Rattle.certificate.specs.declared.rows.Offer.{Offer};
 ghost use Rattle.twins.specs.IsPart.{is_same_weight};
-ghost use Rattle.twins.specs.PartsView.{AreBounds};
+ghost use Rattle.twins.specs.SlotsView.{AreBounds};
 ghost use Rattle.twins.specs.AreSpans.{IsSpan, IsMade, AreSpans, AreAlike, IsPlaceOf};
 
 use crate::span_list::Span;

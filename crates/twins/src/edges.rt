@@ -7,7 +7,7 @@ ghost use Rattle.cpu_set.specs.Ranges.{in_ranges};
 ghost use Rattle.certificate.specs.Weight.{weight_in};
 ghost use Rattle.twins.specs.Edges.{AreEdges, IsRun};
 ghost use Rattle.twins.specs.Kinds.{AreKinds};
-ghost use Rattle.twins.specs.PartsView.{AreBounds};
+ghost use Rattle.twins.specs.SlotsView.{AreBounds};
 
 use certificate::{Offers, Row};
 use cpu_set::{CPU_LIMIT, IdSet};

@@ -1,5 +1,5 @@
 //! Classes of twins, by splitting sets of CPUs row by row.
-ghost use Rattle.std.specs.Prelude.{◌≡◌, ℕ, ◌<◌, ◌≤◌, ◌+◌, ◌++◌, [], true, IsTrue, IfOk, OnOk, IfSome, MatchOption};
+ghost use Rattle.std.specs.Prelude.{◌≡◌, ℕ, ◌<◌, ◌≤◌, ◌+◌, List, [], true, IsTrue, IfOk, OnOk, IfSome, MatchOption};
 ghost use Rattle.std.specs.Prelude.{All, length, slice_index_or};
 ghost use Rattle.std.specs.List.{list_all};
 ghost use Rattle.std.specs.FinSet as set;
@@ -13,15 +13,18 @@ ghost use Rattle.twins.specs.Kinds.{AreKinds};
 ghost use Rattle.twins.specs.RowCpus.{AreCpusOf, AreRowCpus};
 ghost use Rattle.twins.specs.Edges.{AreEdges};
 ghost use Rattle.twins.specs.AreSpans.{AreSpans};
-ghost use Rattle.twins.specs.PartsView.{AreBounds};
+ghost use Rattle.twins.specs.Separates.{IsApart};
 ghost use Rattle.twins.specs.Settled.{AreOnce, IsSettling};
-ghost use Rattle.twins.specs.IsPart.{IsPart, IsUnsplit, ArePieces, IsSplit, IsPutTo};
+ghost use Rattle.twins.specs.SlotsView.{AreBounds};
+ghost use Rattle.twins.specs.IsPart.{IsPart, IsOpen, IsUnsplit, IsPutTo};
+ghost use Rattle.twins.specs.OnWay.{AreLooked, AreOnWay, IsMovedOut, IsOpenSlot, IsSplitAt};
 
 use crate::Classes;
 use crate::alike::{alike, are_alike, place_of_alike};
+use crate::differing::separating;
 use crate::edges::{are_in_one_run, edges_of};
-use crate::parts::{Parts, bounds_of, last_up_to};
 use crate::settling::Settling;
+use crate::slots::{Slot, Slots, bounds_of, last_up_to};
 use crate::spans::Spans;
 use certificate::{Offers, Problem, Row};
 use cpu_set::{CPU_LIMIT, IdSet};
@@ -30,10 +33,12 @@ use std::alloc::{AllocError, Global};
 /// The CPUs with a weight in some row, in classes of twins. A CPU with none is in no class.
 ///
 /// Each row splits the sets that are left of the rows before it; a set that is one run of twins needs no more looks. A
-/// row of the kind of an earlier one splits none. At worst O(r * (g + o)) operations on sets, O(r * g * o) looks at
-/// offers and O(r * p) at ranges, of r rows with at most o offers and p ranges each and g classes: a set is looked up
-/// in a few ranges alone, and each offer's set is made at most once for a row. The set of each row's CPUs is kept until
-/// the end.
+/// row of the kind of an earlier one splits none, and each other one none but those with a CPU that it offers, or those
+/// with a CPU to which it and an earlier row give other weights. So a row that holds a few CPUs more or fewer than one
+/// before it costs O(p + h log h) of its p ranges and of h such CPUs. At worst it is O(r * (g + o)) operations on sets,
+/// O(r * g * o) looks at offers and O(r * p) at ranges, of r rows with at most o offers and p ranges each and g classes:
+/// a set is looked up in a few ranges alone, and each offer's set is made at most three times for a row. The set of each
+/// row's CPUs is kept until the end.
 ///
 /// # Errors
 /// An allocation failure.
@@ -58,52 +63,113 @@ fn group_body(alloc: Global, rows: &[Row], kinds: &[usize]) -> Result<Vec<IdSet>
     let edges = edges_of(rows, kinds, &offered);
     let runs = edges.meet(&offered).count();
     let mut alone = Vec::with_capacity(alloc, runs as usize)?;
-    let mut parts = unsplit(alloc, &offered)?;
+    let mut slots = unsplit(alloc, &offered)?;
     let mut spans = Spans::new(alloc)?;
     let mut settling = Settling::new(once, offered.count(), runs);
+    let mut latest = vec![in alloc; 0usize; CPU_LIMIT as usize]?;
     let mut kind = 0;
     for k in 0..rows.len() {
         if kinds[k] == k {
+            let last = last_offered(&rows[k]) as usize;
+            let apart = separating(rows, k, latest[last], &sets[kind]);
+            let named = slots.name(alloc, &apart)?;
             split_all(
                 rows,
                 k,
                 &sets[kind],
-                &mut parts,
+                &named,
+                &mut slots,
                 &mut spans,
                 &edges,
                 &mut settling,
                 &mut alone,
             )?;
+            latest[last] = k;
             kind += 1;
         }
     }
-    add_open(&parts, &mut alone)?;
+    let named = slots.name(alloc, &offered)?;
+    move_all(&mut slots, &named, &mut alone)?;
     Ok(alone)
 }
 
-/// Adds the parts that are left to the classes.
-fn add_open(parts: &Parts, classes: &mut Vec<IdSet>) -> Result<(), AllocError>
-    ensures { OnOk result (classes.new.items ≡ classes.old.items ++ parts.now.waiting) }
+/// The last CPU of the last range of the row's last offer, and 0 where there is none. Rows of one home have the same one
+/// by and large, since what they hold lies near.
+fn last_offered(row: &Row) -> u16
+    ensures { result < CPU_LIMIT }
 {
-    for at in 0..parts.len() {
-        classes.push(*parts.cpus(at))?;
+    if row.offers.len() == 0 {
+        return 0;
+    }
+    let cpus = row.offers.ranges(row.offers.len() - 1);
+    match cpus.last() {
+        Some(range) => range.1,
+        None => 0,
+    }
+}
+
+/// Adds the sets that are left to the classes, first those that are named, in that order.
+fn move_all(
+    slots: &mut Slots,
+    named: &[(u16, usize)],
+    classes: &mut Vec<IdSet>,
+) -> Result<(), AllocError>
+    requires { All (λ t. t.1 < length slots.old) named.now }
+    ensures { (rows : List RowView) → AreOnWay rows (length rows) slots.old classes.old.items
+        → OnOk result (IsGrouping rows classes.new.items) }
+{
+    move_named(slots, named, classes)?;
+    for at in 0..slots.len() {
+        move_out(slots, at, classes)?;
     }
     Ok(())
 }
 
-/// One part with all CPUs, or none where there is no CPU.
-fn unsplit(alloc: Global, all: &IdSet) -> Result<Parts, AllocError>
-    ensures waiting { IfOk result (λ parts. IsUnsplit all.now parts.waiting) }
-    ensures done { IfOk result (λ parts. parts.done ≡ []) }
+/// Adds the sets that are named to the classes, in that order.
+fn move_named(
+    slots: &mut Slots,
+    named: &[(u16, usize)],
+    classes: &mut Vec<IdSet>,
+) -> Result<(), AllocError>
+    requires { All (λ t. t.1 < length slots.old) named.now }
+    ensures { (rows : List RowView) → AreOnWay rows (length rows) slots.old classes.old.items
+        → OnOk result (AreOnWay rows (length rows) slots.new classes.new.items) }
 {
-    let mut parts = Parts::new(alloc);
+    for t in 0..named.len() {
+        let (_, at) = named[t];
+        move_out(slots, at, classes)?;
+    }
+    Ok(())
+}
+
+/// Adds a set to the classes, if it is there yet.
+fn move_out(slots: &mut Slots, at: usize, classes: &mut Vec<IdSet>) -> Result<(), AllocError>
+    requires { at < length slots.old }
+    ensures { OnOk result (IsMovedOut at slots.old classes.old.items slots.new classes.new.items) }
+{
+    let cpus = slots.take(at);
+    if !cpus.is_empty() {
+        classes.push(cpus)?;
+    }
+    Ok(())
+}
+
+/// One set with all CPUs, or none where there is no CPU.
+fn unsplit(alloc: Global, all: &IdSet) -> Result<Slots, AllocError>
+    ensures { IfOk result (λ slots. IsUnsplit all.now slots) }
+{
+    let mut slots = Slots::new(alloc)?;
     if all.count() == 0 {
-        return Ok(parts);
+        return Ok(slots);
     }
     let (first, last) = bounds_of(all);
-    parts.add(all, first, last)?;
-    parts.turn();
-    Ok(parts)
+    slots.add(&Slot {
+        cpus: *all,
+        first,
+        last,
+        label: 0,
+    })?;
+    Ok(slots)
 }
 
 /// The CPUs with a weight in some row, and those for which rows of one kind alone have one. A row of the kind of an
@@ -134,13 +200,14 @@ fn offered_cpus(
     Ok((offered, offered.minus(&twice)))
 }
 
-/// Parts that agree on the rows before row `k`, split so that they agree on it too.
+/// Sets that agree on the rows before row `k`, split so that they agree on it too. Those that are not named do already.
 #[inline(never)]
 fn split_all(
     rows: &[Row],
     k: usize,
     cpus: &IdSet,
-    parts: &mut Parts,
+    named: &[(u16, usize)],
+    slots: &mut Slots,
     spans: &mut Spans,
     edges: &IdSet,
     settling: &mut Settling,
@@ -151,20 +218,18 @@ fn split_all(
     requires cpus { AreCpusOf rows.now k cpus.now }
     requires settling { IsSettling rows.now k settling.old }
     requires edges { AreEdges rows.now edges.now }
-    requires parts { All (IsPart rows.now k) parts.old.waiting }
-    requires done { parts.old.done ≡ [] }
-    requires alone { All (IsPart rows.now (length rows.now)) alone.old.items }
-    ensures pieces { OnOk result (ArePieces rows.now (k
-        + 1) parts.old.waiting alone.old.items parts.new.waiting alone.new.items) }
-    ensures done { OnOk result (parts.new.done ≡ []) }
+    requires named { All (λ t. t.1 < length slots.old) named.now }
+    requires sets { AreLooked rows.now k named.now slots.old alone.old.items }
+    ensures sets { OnOk result (AreOnWay rows.now (k + 1) slots.new alone.new.items) }
     ensures settling { OnOk result (IsSettling rows.now (k + 1) settling.new) }
 {
-    if parts.len() == 0 {
+    if named.is_empty() {
         return Ok(());
     }
     let row = &rows[k];
     spans.note(&row.offers, cpus)?;
-    for at in 0..parts.len() {
+    for t in 0..named.len() {
+        let (_, at) = named[t];
         split(
             rows,
             k,
@@ -173,16 +238,15 @@ fn split_all(
             edges,
             settling,
             at,
-            parts,
+            slots,
             alone,
         )?;
     }
-    parts.turn();
     settling.turn();
     Ok(())
 }
 
-/// One part, split by the weights that its CPUs have in row `k`. One that is settled or is seen to have one weight
+/// One set, split by the weights that its CPUs have in row `k`. One that is settled or is seen to have one weight
 /// stays whole.
 fn split(
     rows: &[Row],
@@ -192,7 +256,7 @@ fn split(
     edges: &IdSet,
     settling: &mut Settling,
     at: usize,
-    parts: &mut Parts,
+    slots: &mut Slots,
     alone: &mut Vec<IdSet>,
 ) -> Result<(), AllocError>
     requires fit { IsTrue (list_all row_fits rows.now) }
@@ -201,32 +265,29 @@ fn split(
     requires spans { AreSpans offers.now spans.old }
     requires edges { AreEdges rows.now edges.now }
     requires settling { IsSettling rows.now k settling.old }
-    requires at { at < length parts.old.waiting }
-    requires part { IsPart rows.now k (slice_index_or parts.old.waiting at set.empty) }
-    requires parts { All (IsPart rows.now (k + 1)) parts.old.done }
+    requires at { at < length slots.old }
+    requires slot { IsOpenSlot rows.now k (slice_index_or slots.old at set.empty) }
     requires alone { All (IsPart rows.now (length rows.now)) alone.old.items }
-    ensures waiting { OnOk result (parts.new.waiting ≡ parts.old.waiting) }
-    ensures split { OnOk result (IsSplit rows.now (k
-        + 1) (slice_index_or parts.old.waiting at set.empty) parts.old.done alone.old.items parts.new.done
-        alone.new.items) }
+    ensures split { OnOk result (IsSplitAt rows.now (k + 1) at slots.old alone.old.items slots.new alone.new.items) }
     ensures spans { OnOk result (AreSpans offers.now spans.new) }
     ensures settling { OnOk result (IsSettling rows.now k settling.new) }
 {
-    let (first, last) = parts.bounds(at);
-    if settling.has(spans, parts.cpus(at), first) {
-        parts.keep(at)?;
+    if slots.cpus(at).is_empty() {
         return Ok(());
     }
-    let whole = are_alike(offers, spans, parts.cpus(at), first, last)?;
+    let (first, last) = slots.bounds(at);
+    if settling.has(spans, slots.cpus(at), first) {
+        return Ok(());
+    }
+    let whole = are_alike(offers, spans, slots.cpus(at), first, last)?;
     if whole {
-        parts.keep(at)?;
         return Ok(());
     }
-    split_apart(rows, k, offers, spans, edges, settling, at, parts, alone)
+    split_apart(rows, k, offers, spans, edges, settling, at, slots, alone)
 }
 
-/// One part, split by the weights that its CPUs have in row `k`.
-// Not inlined: inlined, it makes a stack slot for the copy that is split, which is cleared for each part that stays
+/// One set, split by the weights that its CPUs have in row `k`.
+// Not inlined: inlined, it makes a stack slot for the copy that is split, which is cleared for each set that stays
 // whole too.
 #[inline(never)]
 fn split_apart(
@@ -237,7 +298,7 @@ fn split_apart(
     edges: &IdSet,
     settling: &mut Settling,
     at: usize,
-    parts: &mut Parts,
+    slots: &mut Slots,
     alone: &mut Vec<IdSet>,
 ) -> Result<(), AllocError>
     requires fit { IsTrue (list_all row_fits rows.now) }
@@ -246,25 +307,23 @@ fn split_apart(
     requires spans { AreSpans offers.now spans.old }
     requires edges { AreEdges rows.now edges.now }
     requires settling { IsSettling rows.now k settling.old }
-    requires at { at < length parts.old.waiting }
-    requires part { IsPart rows.now k (slice_index_or parts.old.waiting at set.empty) }
-    requires parts { All (IsPart rows.now (k + 1)) parts.old.done }
+    requires at { at < length slots.old }
+    requires part { IsOpen rows.now k (slice_index_or slots.old at set.empty) }
     requires alone { All (IsPart rows.now (length rows.now)) alone.old.items }
-    ensures waiting { OnOk result (parts.new.waiting ≡ parts.old.waiting) }
-    ensures split { OnOk result (IsSplit rows.now (k
-        + 1) (slice_index_or parts.old.waiting at set.empty) parts.old.done alone.old.items parts.new.done
-        alone.new.items) }
+    ensures split { OnOk result (IsSplitAt rows.now (k + 1) at slots.old alone.old.items slots.new alone.new.items) }
     ensures spans { OnOk result (AreSpans offers.now spans.new) }
     ensures settling { OnOk result (IsSettling rows.now k settling.new) }
 {
-    let (_, last) = parts.bounds(at);
-    let mut rest = *parts.cpus(at);
+    let (_, last) = slots.bounds(at);
+    let mut label = slots.label(at);
+    let mut rest = slots.take(at);
     let mut next = rest.first();
     while let Some(cpu) = next {
         let place = place_of_alike(offers, spans, cpu)?;
         let piece = alike(spans, place, &rest);
-        put(&piece, cpu, last, edges, parts, alone)?;
+        put(&piece, cpu, last, label, edges, slots, alone)?;
         settling.note(spans, cpu, &piece);
+        label = label.wrapping_add(piece.count() as u16);
         rest = rest.minus(&piece);
         next = first_above(&rest, cpu);
     }
@@ -288,20 +347,25 @@ fn put(
     piece: &IdSet,
     first: u16,
     upto: u16,
+    label: u16,
     edges: &IdSet,
-    parts: &mut Parts,
+    slots: &mut Slots,
     alone: &mut Vec<IdSet>,
 ) -> Result<(), AllocError>
-    requires { AreBounds piece.now first upto }
-    ensures waiting { OnOk result (parts.new.waiting ≡ parts.old.waiting) }
-    ensures put { OnOk result (IsPutTo edges.now piece.now parts.old.done alone.old.items parts.new.done
-        alone.new.items) }
+    requires bounds { AreBounds piece.now first upto }
+    requires apart { All (λ s. IsApart s piece.now) slots.old }
+    ensures { OnOk result (IsPutTo edges.now piece.now slots.old alone.old.items slots.new alone.new.items) }
 {
     let last = last_up_to(piece, upto);
     if are_in_one_run(first, last, edges) {
         alone.push(*piece)?;
     } else {
-        parts.add(piece, first, last)?;
+        slots.add(&Slot {
+            cpus: *piece,
+            first,
+            last,
+            label,
+        })?;
     }
     Ok(())
 }

@@ -17,7 +17,6 @@ mod grouping;
 mod holders;
 mod kinds;
 pub mod laws;
-mod parts;
 mod pricing;
 mod settling;
 mod slots;

@@ -1,22 +1,30 @@
 //! The sets of CPUs that rows have split so far, and for each CPU where the one stands that has it.
-ghost use Rattle.std.specs.Prelude.{◌≡◌, ℕ, ◌<◌, ◌++◌, [], ◌∷◌, true, false, All, IfOk, OnOk, length, slice_index_or, slice_set};
+ghost use Rattle.std.specs.Prelude.{◌≡◌, ℕ, ◌<◌, ◌≤◌, ◌++◌, [], ◌∷◌, true, All, IfOk, OnOk, length, slice_index_or, slice_set};
 ghost use Rattle.std.specs.FinSet as set;
 ghost use Rattle.cpu_set.specs.Ids.{Ids};
+ghost use Rattle.cpu_set.specs.declared.TheConstants.{CPU_LIMIT};
 ghost use Rattle.twins.specs.Separates.{IsApart};
-ghost use Rattle.twins.specs.SlotsView.{AreNamed, IsMarked};
+ghost use Rattle.twins.specs.SlotsView.{AreBounds, AreMarked, AreNamed};
 
 use cpu_set::{CPU_LIMIT, IdSet};
 use std::alloc::{AllocError, Global};
 use std::marker::Model;
 
-/// A set, or the empty one where it was taken out, and how many CPUs the sets before it have, which gives their order.
+/// At how many CPUs the last one of a set is sought before it is read off the words.
+const FEW_CPUS: u32 = 8;
+
+/// A set, or the empty one where it was taken out.
 #[derive(Clone, Copy)]
 pub(crate) struct Slot {
     pub cpus: IdSet,
+    // Between these lie its CPUs.
+    pub first: u16,
+    pub last: u16,
+    // How many CPUs the sets before it have. Sets are in the order of their labels, wherever they stand.
     pub label: u16,
 }
 
-/// Sets of CPUs, of which no two have a CPU in common.
+/// Sets of CPUs that rows split, of which no two have a CPU in common. Where a set stands it stays until it is split.
 #[derive(Drop)]
 pub(crate) struct Slots {
     slots: Vec<Slot>,
@@ -25,13 +33,16 @@ pub(crate) struct Slots {
 }
 
 impl Model for Slots {
-    ghost use Rattle.twins.specs.SlotsView.{SlotsView, ArePlaced, slots_view, slots_code};
+    ghost use Rattle.std.specs.Prelude.{List};
+    ghost use Rattle.cpu_set.specs.Ids.{Ids};
+    ghost use Rattle.certificate.specs.SetsCode.{sets_code};
+    ghost use Rattle.twins.specs.SlotsView.{ArePlaced, sets_of};
 
-    ghost Value = { SlotsView };
+    ghost Value = { List Ids };
 
-    ghost coded = { slots_code };
+    ghost coded = { sets_code };
 
-    ghost view = { λ a. slots_view a.slots.items a.places.items };
+    ghost view = { λ a. sets_of a.slots.items };
 
     ghost invariant = { λ a. ArePlaced a.slots.items a.places.items };
 }
@@ -42,7 +53,7 @@ impl Slots {
     /// # Errors
     /// An allocation failure.
     pub(crate) fn new(alloc: Global) -> Result<Slots, AllocError>
-        ensures { IfOk result (λ slots. slots.sets ≡ []) }
+        ensures { IfOk result (λ slots. slots ≡ []) }
     {
         let places = vec![in alloc; 0usize; CPU_LIMIT as usize]?;
         Ok(Slots {
@@ -53,23 +64,32 @@ impl Slots {
 
     /// How many sets there are, with those that were taken out.
     pub(crate) fn len(&self) -> usize
-        ensures { result ≡ length self.now.sets }
+        ensures { result ≡ length self.now }
     {
         self.slots.len()
     }
 
     /// The CPUs of a set.
     pub(crate) fn cpus(&self, at: usize) -> &IdSet
-        requires { at < length self.now.sets }
-        ensures { (d : Ids) → result.now ≡ slice_index_or self.now.sets at d }
+        requires { at < length self.now }
+        ensures { (d : Ids) → result.now ≡ slice_index_or self.now at d }
     {
         let slot = &self.slots[at];
         &slot.cpus
     }
 
-    /// The label of a set.
+    /// A first CPU and a last one, between which those of a set lie.
+    pub(crate) fn bounds(&self, at: usize) -> (u16, u16)
+        requires { at < length self.now }
+        ensures { (d : Ids) → AreBounds (slice_index_or self.now at d) result.0 result.1 }
+    {
+        let slot = &self.slots[at];
+        (slot.first, slot.last)
+    }
+
+    /// How many CPUs the sets before a set have.
     pub(crate) fn label(&self, at: usize) -> u16
-        requires { at < length self.now.sets }
+        requires { at < length self.now }
     {
         let slot = &self.slots[at];
         slot.label
@@ -77,71 +97,60 @@ impl Slots {
 
     /// Takes a set out, and leaves the empty one.
     pub(crate) fn take(&mut self, at: usize) -> IdSet
-        requires { at < length self.old.sets }
-        ensures taken { (d : Ids) → result ≡ slice_index_or self.old.sets at d }
-        ensures left { self.new.sets ≡ slice_set self.old.sets at set.empty }
-        ensures places { self.new.places ≡ self.old.places }
-        // Its CPUs are those that stand there.
-        ensures home { (cpu : ℕ) → set.contains result cpu ≡ true → slice_index_or self.old.places cpu 0 ≡ at }
+        requires { at < length self.old }
+        ensures taken { (d : Ids) → result ≡ slice_index_or self.old at d }
+        ensures left { self.new ≡ slice_set self.old at set.empty }
+        ensures apart { All (λ s. IsApart s result) self.new }
     {
         let slot = self.slots[at];
         self.slots[at] = Slot {
             cpus: IdSet::empty(),
+            first: 0,
+            last: 0,
             label: slot.label,
         };
         slot.cpus
     }
 
-    /// Puts a set where one with its CPUs was taken out.
-    pub(crate) fn put_back(&mut self, at: usize, cpus: &IdSet, label: u16)
-        requires there { at < length self.old.sets }
-        requires home { (cpu : ℕ) → set.contains cpus.now cpu ≡ true → slice_index_or self.old.places cpu 0 ≡ at }
-        ensures sets { self.new.sets ≡ slice_set self.old.sets at cpus.now }
-        ensures places { self.new.places ≡ self.old.places }
-    {
-        self.slots[at] = Slot { cpus: *cpus, label };
-    }
-
     /// Adds a set behind the others. O(c) of its c CPUs.
     ///
     /// # Errors
-    /// An allocation failure, which changes nothing.
-    pub(crate) fn add(&mut self, cpus: &IdSet, label: u16) -> Result<(), AllocError>
-        requires apart { All (λ s. IsApart s cpus.now) self.old.sets }
-        ensures sets { OnOk result (self.new.sets ≡ self.old.sets ++ cpus.now ∷ []) }
-        ensures places { OnOk result ((cpu : ℕ) → set.contains cpus.now cpu ≡ false
-            → slice_index_or self.new.places cpu 0 ≡ slice_index_or self.old.places cpu 0) }
+    /// An allocation failure.
+    pub(crate) fn add(&mut self, slot: &Slot) -> Result<(), AllocError>
+        requires bounds { AreBounds slot.now.cpus slot.now.first slot.now.last }
+        requires apart { All (λ s. IsApart s slot.now.cpus) self.old }
+        ensures { OnOk result (self.new ≡ self.old ++ slot.now.cpus ∷ []) }
     {
         let place = self.slots.len();
-        self.slots.push(Slot { cpus: *cpus, label })?;
-        mark(&mut self.places, cpus, place);
+        self.slots.push(*slot)?;
+        mark(&mut self.places, &slot.cpus, place);
         Ok(())
     }
 
-    /// Names each set that has one of the CPUs, in their order; perhaps others too. O(c + t log t) of c CPUs, and of t
-    /// sets that are named; or of as many sets as there are, where they are fewer.
+    /// The names of the sets that have one of the CPUs, and perhaps of others, in their order: the label of each, and
+    /// where it stands. O(c + t log t) of c CPUs and of t names. A set may be named more than once.
     ///
     /// # Errors
     /// An allocation failure.
-    pub(crate) fn name(&self, cpus: &IdSet, named: &mut Vec<(u16, usize)>) -> Result<(), AllocError>
-        ensures there { OnOk result (All (λ t. t.1 < length self.now.sets) named.new.items) }
-        ensures all { OnOk result (AreNamed self.now.sets cpus.now named.new.items) }
+    pub(crate) fn name(&self, alloc: Global, cpus: &IdSet) -> Result<Vec<(u16, usize)>, AllocError>
+        ensures there { IfOk result (λ named. All (λ t. t.1 < length self.now) named.items) }
+        ensures all { IfOk result (λ named. AreNamed self.now cpus.now named.items) }
     {
-        named.clear();
+        let mut named = Vec::new(alloc);
         if cpus.count() as usize > self.slots.len() {
-            self.name_all(named)?;
+            self.name_all(&mut named)?;
         } else {
-            self.name_each(cpus, named)?;
+            self.name_each(cpus, &mut named)?;
         }
         named.sort_unstable();
-        Ok(())
+        Ok(named)
     }
 
     /// Names all sets.
     fn name_all(&self, named: &mut Vec<(u16, usize)>) -> Result<(), AllocError>
         requires { named.old.items ≡ [] }
-        ensures there { OnOk result (All (λ t. t.1 < length self.now.sets) named.new.items) }
-        ensures all { (cpus : Ids) → OnOk result (AreNamed self.now.sets cpus named.new.items) }
+        ensures there { OnOk result (All (λ t. t.1 < length self.now) named.new.items) }
+        ensures all { (cpus : Ids) → OnOk result (AreNamed self.now cpus named.new.items) }
     {
         for at in 0..self.slots.len() {
             named.push((self.label(at), at))?;
@@ -152,8 +161,8 @@ impl Slots {
     /// Names each set that has one of the CPUs.
     fn name_each(&self, cpus: &IdSet, named: &mut Vec<(u16, usize)>) -> Result<(), AllocError>
         requires { named.old.items ≡ [] }
-        ensures there { OnOk result (All (λ t. t.1 < length self.now.sets) named.new.items) }
-        ensures all { OnOk result (AreNamed self.now.sets cpus.now named.new.items) }
+        ensures there { OnOk result (All (λ t. t.1 < length self.now) named.new.items) }
+        ensures all { OnOk result (AreNamed self.now cpus.now named.new.items) }
     {
         let mut next = cpus.first();
         while let Some(cpu) = next {
@@ -170,7 +179,7 @@ impl Slots {
 /// Notes for each CPU of a set where the set stands.
 fn mark(places: &mut [usize], cpus: &IdSet, place: usize)
     requires { length places.old ≡ CPU_LIMIT }
-    ensures marked { IsMarked cpus.now place places.old places.new }
+    ensures marked { AreMarked cpus.now place places.old places.new }
     ensures long { length places.new ≡ CPU_LIMIT }
 {
     let mut next = cpus.first();
@@ -178,4 +187,26 @@ fn mark(places: &mut [usize], cpus: &IdSet, place: usize)
         places[cpu as usize] = place;
         next = cpus.next_after(cpu);
     }
+}
+
+/// The last of some CPUs, of which none is above this one.
+pub(crate) fn last_up_to(cpus: &IdSet, upto: u16) -> u16
+    requires { (cpu : ℕ) → set.contains cpus.now cpu ≡ true → cpu ≤ upto }
+    ensures { (cpu : ℕ) → set.contains cpus.now cpu ≡ true → cpu ≤ result }
+{
+    let mut last = upto;
+    for _ in 0..FEW_CPUS {
+        if last == 0 || cpus.contains(last) {
+            return last;
+        }
+        last -= 1;
+    }
+    cpus.last().unwrap_or(0)
+}
+
+/// The first and the last of some CPUs.
+pub(crate) fn bounds_of(cpus: &IdSet) -> (u16, u16)
+    ensures { AreBounds cpus.now result.0 result.1 }
+{
+    (cpus.first().unwrap_or(0), cpus.last().unwrap_or(0))
 }
