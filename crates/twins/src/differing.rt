@@ -97,6 +97,8 @@ fn add_apart(found: &mut IdSet, some: &Offers, at: usize, others: &Offers, other
     }
     let first = some.offer(at).cpus;
     let second = others.offer(other).cpus;
-    *found = found.union(&first.minus(&second)).union(&second.minus(&first));
+    *found = found
+        .union(&first.minus(&second))
+        .union(&second.minus(&first));
     true
 }

@@ -30,6 +30,9 @@ use certificate::{Offers, Problem, Row};
 use cpu_set::{CPU_LIMIT, IdSet};
 use std::alloc::{AllocError, Global};
 
+/// How many offers tell the rows of one home from those of others.
+const NEAR_OFFERS: usize = 2;
+
 /// The CPUs with a weight in some row, in classes of twins. A CPU with none is in no class.
 ///
 /// Each row splits the sets that are left of the rows before it; a set that is one run of twins needs no more looks. A
@@ -70,7 +73,7 @@ fn group_body(alloc: Global, rows: &[Row], kinds: &[usize]) -> Result<Vec<IdSet>
     let mut kind = 0;
     for k in 0..rows.len() {
         if kinds[k] == k {
-            let last = last_offered(&rows[k]) as usize;
+            let last = nearest_end(&rows[k]) as usize;
             let apart = separating(rows, k, latest[last], &sets[kind]);
             let named = slots.name(alloc, &apart)?;
             split_all(
@@ -93,19 +96,18 @@ fn group_body(alloc: Global, rows: &[Row], kinds: &[usize]) -> Result<Vec<IdSet>
     Ok(alone)
 }
 
-/// The last CPU of the last range of the row's last offer, and 0 where there is none. Rows of one home have the same one
-/// by and large, since what they hold lies near.
-fn last_offered(row: &Row) -> u16
+/// The greatest CPU at the ends of the first offers' last ranges, and 0 where there is none. Rows of one home mostly have
+/// the same one, since what they hold there and what they don't are their first two offers.
+fn nearest_end(row: &Row) -> u16
     ensures { result < CPU_LIMIT }
 {
-    if row.offers.len() == 0 {
-        return 0;
+    let mut end = 0;
+    for at in 0..NEAR_OFFERS.min(row.offers.len()) {
+        if let Some(range) = row.offers.ranges(at).last() {
+            end = range.1.max(end);
+        }
     }
-    let cpus = row.offers.ranges(row.offers.len() - 1);
-    match cpus.last() {
-        Some(range) => range.1,
-        None => 0,
-    }
+    end
 }
 
 /// Adds the sets that are left to the classes, first those that are named, in that order.

@@ -18,8 +18,7 @@ returns c = λ cpu d out.
     let second = outside _ _ _ cpu c.union-2.ensures out in
     let first = outside _ _ _ cpu c.union.ensures second.0 in
     let x = c.offer-first.ensures ∙ get_or_default c.args.some.now c.args.at c.offer-first.result d c.requires.first in
-    let y = c.offer-second.ensures ∙ get_or_default c.args.others.now c.args.other c.offer-second.result d c.requires.second in
-    (
+    let y = c.offer-second.ensures ∙ get_or_default c.args.others.now c.args.other c.offer-second.result d c.requires.second in (
       first.0,
       sym (ap (λ (o : Offer). set.contains o.cpus cpu) x) ∙ in_both _ _ _ _ cpu c.minus.ensures c.minus-2.ensures first.1 second.1 ∙ ap (λ (o : Offer). set.contains o.cpus cpu) y,
     )
