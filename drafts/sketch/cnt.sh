@@ -1,0 +1,1 @@
+for p in p-*; do for v in none old ${NEW:-new tri}; do n=$(valgrind --tool=callgrind --callgrind-out-file=cg.$v.$p ./sk $v $p 2>&1 | grep -oE "Collected : [0-9]+" | grep -oE "[0-9]+"); echo "$p $v $n"; done; done | python3 cnt.py

@@ -1,0 +1,1 @@
+rustc -O -g -C target-cpu=x86-64 -o sk src/main.rs 2>&1 | grep -E "^error|-->" -A5 | head -40;  for p in p-*; do a=$(./sk old $p); b=$(./sk six $p); [ "$a" = "$b" ] && echo -n "same " || echo "DIFF $p $a $b"; done; NEW=six bash cnt.sh

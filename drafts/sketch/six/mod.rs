@@ -1,0 +1,11 @@
+pub mod alike;
+pub mod edges;
+pub mod grouping;
+pub mod settling;
+pub mod spans;
+pub mod span_list;
+pub mod kinds;
+pub mod classes;
+pub mod slots;
+pub mod differing;
+pub use self::classes::Classes;
