@@ -18,6 +18,7 @@ pub mod Ends
 pub mod SettledCpus
 pub mod RowCpus
 pub mod Unlike
+pub mod Pieces
 pub mod Separating
 pub mod Walks
 pub mod SlotSets

@@ -16,5 +16,6 @@ pub mod OnWay
 pub mod Settled
 pub mod RowCpus
 pub mod Differing
+pub mod Pieces
 pub mod Separates
 pub mod SlotsView

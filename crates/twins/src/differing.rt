@@ -1,14 +1,15 @@
 //! The CPUs that two rows weigh otherwise.
-ghost use Rattle.std.specs.Prelude.{◌≡◌, ℕ, ◌≤◌, ◌<◌, false, IsTrue, IsFalse, IfSome, length, slice_index_or};
+ghost use Rattle.std.specs.Prelude.{◌≡◌, ℕ, ◌≤◌, ◌<◌, true, false, IsTrue, IsFalse, IfSome, length, slice_index_or};
 ghost use Rattle.std.specs.FinSet as set;
 ghost use Rattle.certificate.specs.Weight.{weight_in};
 ghost use Rattle.certificate.specs.declared.rows.Offer.{Offer};
-ghost use Rattle.twins.specs.Differing.{AddsOffer, AddsApart};
+ghost use Rattle.twins.specs.Differing.{AddsOffer, AddsApart, AddsUnlike};
+ghost use Rattle.twins.specs.Pieces.{ArePieces, IsLeft, IsPiece};
 ghost use Rattle.twins.specs.RowCpus.{AreCpusOf};
 ghost use Rattle.twins.specs.Separates.{Separates};
 
 use certificate::{Offers, Row};
-use cpu_set::IdSet;
+use cpu_set::{CPU_LIMIT, IdSet};
 
 /// At how many offers that differ two rows are no longer compared.
 const FEW_OFFERS: u32 = 8;
@@ -95,10 +96,60 @@ fn add_apart(found: &mut IdSet, some: &Offers, at: usize, others: &Offers, other
     if some.ranges(at) == others.ranges(other) {
         return false;
     }
-    let first = some.offer(at).cpus;
-    let second = others.offer(other).cpus;
-    *found = found
-        .union(&first.minus(&second))
-        .union(&second.minus(&first));
+    match (some.wide(at), others.wide(other)) {
+        (Some(first), Some(second)) => {
+            *found = found.union(&first.minus(second)).union(&second.minus(first));
+        }
+        _ => add_unlike(found, some.ranges(at), others.ranges(other)),
+    }
     true
+}
+
+/// Adds the CPUs that are in a range of one of two lists alone. O(r) of the r ranges of both: from each CPU on up to the
+/// next end in either list, all are in the ranges of a list or none is.
+fn add_unlike(found: &mut IdSet, some: &[(u16, u16)], others: &[(u16, u16)])
+    requires first { ArePieces some.now }
+    requires second { ArePieces others.now }
+    ensures { AddsUnlike some.now others.now found.old found.new }
+{
+    let mut from = 0;
+    let mut at = 0;
+    let mut other = 0;
+    while at < some.len() || other < others.len() {
+        let piece = piece_at(some, at, from);
+        let other_piece = piece_at(others, other, from);
+        let upto = piece.1.min(other_piece.1);
+        if piece.0 != other_piece.0 {
+            found.insert_range(from, upto - 1);
+        }
+        at = place_from(some, at, piece, upto);
+        other = place_from(others, other, other_piece, upto);
+        from = upto;
+    }
+}
+
+/// Where the first range stands that is left from a CPU on, up to which a piece lasts, or a part of it.
+fn place_from(ranges: &[(u16, u16)], at: usize, piece: (bool, u16), upto: u16) -> usize
+    requires { piece.0 ≡ true → at < length ranges.now }
+    ensures { (from : ℕ) → IsLeft ranges.now at from → IsPiece ranges.now at from piece → from ≤ upto → upto ≤ piece.1
+        → IsLeft ranges.now result upto }
+{
+    if piece.0 && upto == piece.1 { at + 1 } else { at }
+}
+
+/// Whether a CPU, which is not behind the range at a place, is in that, and up to which CPU it is the same of those that
+/// follow.
+fn piece_at(ranges: &[(u16, u16)], at: usize, from: u16) -> (bool, u16)
+    requires left { IsLeft ranges.now at from }
+    ensures { IsPiece ranges.now at from result }
+{
+    if at >= ranges.len() {
+        return (false, CPU_LIMIT);
+    }
+    let (first, last) = ranges[at];
+    if first <= from {
+        (true, last + 1)
+    } else {
+        (false, first)
+    }
 }
