@@ -19,6 +19,7 @@ pub mod SettledCpus
 pub mod RowCpus
 pub mod Unlike
 pub mod Pieces
+pub mod Reordered
 pub mod Separating
 pub mod Walks
 pub mod SlotSets

@@ -17,5 +17,6 @@ pub mod Settled
 pub mod RowCpus
 pub mod Differing
 pub mod Pieces
+pub mod Reordered
 pub mod Separates
 pub mod SlotsView

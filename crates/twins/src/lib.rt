@@ -17,6 +17,7 @@ mod grouping;
 mod holders;
 mod kinds;
 pub mod laws;
+mod order;
 mod pricing;
 mod settling;
 mod slots;
