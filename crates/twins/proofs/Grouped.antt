@@ -106,7 +106,7 @@ way_repeated rows k sets alone still so_far = record {
 
 -- before the row: a set that has none of the CPUs outside of which the row splits nothing is not split, and all others are named
 pub looked_start :
-    (rows : List RowView) (k : ℕ) (cpus : Ids) (named : List (ℕ × ℕ)) (sets alone : List Ids) → AreOnWay rows k sets alone → AreNamed sets cpus named → Separates rows k cpus
+    (rows : List RowView) (k : ℕ) (cpus : Ids) (named : List ℕ) (sets alone : List Ids) → AreOnWay rows k sets alone → AreNamed sets cpus named → Separates rows k cpus
     → AreLooked rows k named sets alone
 looked_start rows k cpus named sets alone so_far names separates = record {
   each = λ at d lt. slot at d lt (so_far.each at d lt);
@@ -127,14 +127,14 @@ looked_start rows k cpus named sets alone so_far names separates = record {
     ]
 
 -- a set that is named may be looked at
-pub slot_open : (rows : List RowView) (k : ℕ) (named : List (ℕ × ℕ)) (at : ℕ) (s : Ids) → IsLooked rows k named at s → IsOpenSlot rows k s
+pub slot_open : (rows : List RowView) (k : ℕ) (named : List ℕ) (at : ℕ) (s : Ids) → IsLooked rows k named at s → IsOpenSlot rows k s
 slot_open rows k named at s (inl (inl taken)) = inl taken
 slot_open rows k named at s (inl (inr part)) = inr (open_of_next rows k s part)
 slot_open rows k named at s (inr yet) = yet.0
 
 -- the set at one name has been looked at
 pub looked_more :
-    (rows : List RowView) (k t at : ℕ) (d : ℕ × ℕ) (all : List (ℕ × ℕ)) (sets alone sets_new alone_new : List Ids) → t < length all → (get_or all t d).1 ≡ at
+    (rows : List RowView) (k t at : ℕ) (d : ℕ) (all : List ℕ) (sets alone sets_new alone_new : List Ids) → t < length all → get_or all t d ≡ at
     → AreLooked rows k (drop t all) sets alone → IsSplitAt rows (k + 1) at sets alone sets_new alone_new → AreLooked rows k (drop (t + 1) all) sets_new alone_new
 looked_more rows k t at d all sets alone sets_new alone_new lt is so_far split = record {
   each = λ q e within. elim (cases_lt q (length sets)) [
@@ -148,15 +148,15 @@ looked_more rows k t at d all sets alone sets_new alone_new lt is so_far split =
   once = λ c. split.same c ∙ so_far.once c;
 }
   where
-    not_here : (q : ℕ) → (q ≡ at → ⊥) → cond {A = ℕ} ((get_or all t d).1 == q) 1 0 ≡ 0
-    not_here q differs = ap (λ b. cond {A = ℕ} b 1 0) (false_from_ne_true ((get_or all t d).1 == q) (λ e. differs (sym (sym is ∙ eqb-true (get_or all t d).1 q e))))
+    not_here : (q : ℕ) → (q ≡ at → ⊥) → cond {A = ℕ} (get_or all t d == q) 1 0 ≡ 0
+    not_here q differs = ap (λ b. cond {A = ℕ} b 1 0) (false_from_ne_true (get_or all t d == q) (λ e. differs (sym (sym is ∙ eqb-true (get_or all t d) q e))))
 
     still : (q : ℕ) → (q ≡ at → ⊥) → (s : Ids) → IsLooked rows k (drop t all) q s → IsLooked rows k (drop (t + 1) all) q s
     still q differs s (inl done) = inl done
-    still q differs s (inr yet) = inr (yet.0, omega (arith, yet.1, not_here q differs, sum_by-drop_more (λ (x : ℕ × ℕ). cond {A = ℕ} (x.1 == q) 1 0) all t d lt))
+    still q differs s (inr yet) = inr (yet.0, omega (arith, yet.1, not_here q differs, sum_by-drop_more (λ (x : ℕ). cond {A = ℕ} (x == q) 1 0) all t d lt))
 
 -- all that were named have been looked at
-pub looked_end : (rows : List RowView) (k : ℕ) (named : List (ℕ × ℕ)) (sets alone : List Ids) → named ≡ [] → AreLooked rows k named sets alone → AreOnWay rows (k + 1) sets alone
+pub looked_end : (rows : List RowView) (k : ℕ) (named : List ℕ) (sets alone : List Ids) → named ≡ [] → AreLooked rows k named sets alone → AreOnWay rows (k + 1) sets alone
 looked_end rows k named sets alone none so_far = record {
   each = λ at d lt. slot at (get_or sets at d) (so_far.each at d lt);
   lone = so_far.lone;

@@ -108,12 +108,12 @@ IsMarked-all s number old new None marked none c = marked.passed c tt
 IsMarked-all s number old new (Some n) marked none c = absurd (none n refl)
 
 -- each set with a CPU that the walk has passed is named
-pub record IsNaming (sets : List Ids) (cpus : Ids) (named : List (ℕ × ℕ)) (next : Option ℕ) : Type 0 where
-  pub there : All (λ (t : ℕ × ℕ). t.1 < length sets) named
+pub record IsNaming (sets : List Ids) (cpus : Ids) (named : List ℕ) (next : Option ℕ) : Type 0 where
+  pub there : All (λ (t : ℕ). t < length sets) named
   pub passed : (at c : ℕ) → IsPassed next c → set.contains (get_or sets at set.empty) c ≡ true → set.contains cpus c ≡ true → 1 ≤ times_named at named
   pub in_range : IfSome next (λ n. IsCpu n)
 
-pub IsNaming-none : (sets : List Ids) (cpus : Ids) (named : List (ℕ × ℕ)) (next : Option ℕ) → named ≡ [] → IsNext cpus 0 next → IsNaming sets cpus named next
+pub IsNaming-none : (sets : List Ids) (cpus : Ids) (named : List ℕ) (next : Option ℕ) → named ≡ [] → IsNext cpus 0 next → IsNaming sets cpus named next
 IsNaming-none sets cpus named next none is = record {
   there = λ k d lt. absurd (omega (arith, ap length none, lt));
   passed = λ at c before has member. absurd (false≢true (sym (nothing_between cpus 0 c next is (omega arith) before) ∙ member));
@@ -127,12 +127,12 @@ is_there sets at c has = elim (cases_lt at (length sets)) [
   | inr past ↦ absurd (true≢false (sym has ∙ ap (λ s. set.contains s c) (get_or_past sets at set.empty past) ∙ contains-empty c))
 ]
 
-pub named_once : (at : ℕ) (t : ℕ × ℕ) → t.1 ≡ at → cond {A = ℕ} (t.1 == at) 1 0 ≡ 1
-named_once at t e = ap (λ b. cond {A = ℕ} b 1 0) (eq-eqb t.1 at e)
+pub named_once : (at : ℕ) (t : ℕ) → t ≡ at → cond {A = ℕ} (t == at) 1 0 ≡ 1
+named_once at t e = ap (λ b. cond {A = ℕ} b 1 0) (eq-eqb t at e)
 
 -- the walk goes on behind a CPU whose set it has named
-pub IsNaming-more : (sets : List Ids) (cpus : Ids) (named more : List (ℕ × ℕ)) (cpu : ℕ) (next : Option ℕ) → IsNaming sets cpus named (Some cpu)
-    → All (λ (t : ℕ × ℕ). t.1 < length sets) more → ((at : ℕ) → times_named at named ≤ times_named at more)
+pub IsNaming-more : (sets : List Ids) (cpus : Ids) (named more : List ℕ) (cpu : ℕ) (next : Option ℕ) → IsNaming sets cpus named (Some cpu)
+    → All (λ (t : ℕ). t < length sets) more → ((at : ℕ) → times_named at named ≤ times_named at more)
     → ((at : ℕ) → set.contains (get_or sets at set.empty) cpu ≡ true → 1 ≤ times_named at more)
     → IsNext cpus (cpu + 1) next → IsNaming sets cpus more next
 IsNaming-more sets cpus named more cpu next so_far there grown here is = record {
@@ -149,11 +149,11 @@ IsNaming-more sets cpus named more cpu next so_far there grown here is = record 
   in_range = is.1;
 }
 
-pub named_more : (named : List (ℕ × ℕ)) (t : ℕ × ℕ) (at : ℕ) → times_named at (named ++ t ∷ []) ≡ times_named at named + cond (t.1 == at) 1 0
-named_more named t at = sum_by_push (λ (x : ℕ × ℕ). cond {A = ℕ} (x.1 == at) 1 0) named t
+pub named_more : (named : List ℕ) (t : ℕ) (at : ℕ) → times_named at (named ++ t ∷ []) ≡ times_named at named + cond (t == at) 1 0
+named_more named t at = sum_by_push (λ (x : ℕ). cond {A = ℕ} (x == at) 1 0) named t
 
 -- at its end each set with one of the CPUs is named
-pub IsNaming-all : (sets : List Ids) (cpus : Ids) (named : List (ℕ × ℕ)) (next : Option ℕ) → IsNaming sets cpus named next → ((n : ℕ) → next ≡ Some n → ⊥)
+pub IsNaming-all : (sets : List Ids) (cpus : Ids) (named : List ℕ) (next : Option ℕ) → IsNaming sets cpus named next → ((n : ℕ) → next ≡ Some n → ⊥)
     → (at c : ℕ) → set.contains (get_or sets at set.empty) c ≡ true → set.contains cpus c ≡ true → 1 ≤ times_named at named
 IsNaming-all sets cpus named None so_far none at c has member = so_far.passed at c tt has member
 IsNaming-all sets cpus named (Some n) so_far none at c has member = absurd (none n refl)

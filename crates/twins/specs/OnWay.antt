@@ -21,10 +21,10 @@ pub record AreOnWay (rows : List RowView) (k : ℕ) (sets alone : List Ids) : Ty
   pub once : (cpu : ℕ) → times_in sets cpu + times_in alone cpu ≡ cond (is_offered rows cpu) 1 0
 
 -- while row k is looked at: a set that the row may tell apart is named yet
-abbrev pub IsLooked : List RowView → ℕ → List (ℕ × ℕ) → ℕ → Ids → Type 0
+abbrev pub IsLooked : List RowView → ℕ → List ℕ → ℕ → Ids → Type 0
 IsLooked rows k named at s = IsSlot rows (k + 1) s ⊎ (IsOpenSlot rows k s × (1 ≤ times_named at named))
 
-pub record AreLooked (rows : List RowView) (k : ℕ) (named : List (ℕ × ℕ)) (sets alone : List Ids) : Type 0 where
+pub record AreLooked (rows : List RowView) (k : ℕ) (named : List ℕ) (sets alone : List Ids) : Type 0 where
   pub each : (at : ℕ) (d : Ids) → at < length sets → IsLooked rows k named at (slice_index_or sets at d)
   pub lone : All (IsPart rows (length rows)) alone
   pub once : (cpu : ℕ) → times_in sets cpu + times_in alone cpu ≡ cond (is_offered rows cpu) 1 0

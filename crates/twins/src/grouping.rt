@@ -113,10 +113,10 @@ fn nearest_end(row: &Row) -> u16
 /// Adds the sets that are left to the classes, first those that are named, in that order.
 fn move_all(
     slots: &mut Slots,
-    named: &[(u16, usize)],
+    named: &[usize],
     classes: &mut Vec<IdSet>,
 ) -> Result<(), AllocError>
-    requires { All (λ t. t.1 < length slots.old) named.now }
+    requires { All (λ at. at < length slots.old) named.now }
     ensures { (rows : List RowView) → AreOnWay rows (length rows) slots.old classes.old.items
         → OnOk result (IsGrouping rows classes.new.items) }
 {
@@ -130,15 +130,15 @@ fn move_all(
 /// Adds the sets that are named to the classes, in that order.
 fn move_named(
     slots: &mut Slots,
-    named: &[(u16, usize)],
+    named: &[usize],
     classes: &mut Vec<IdSet>,
 ) -> Result<(), AllocError>
-    requires { All (λ t. t.1 < length slots.old) named.now }
+    requires { All (λ at. at < length slots.old) named.now }
     ensures { (rows : List RowView) → AreOnWay rows (length rows) slots.old classes.old.items
         → OnOk result (AreOnWay rows (length rows) slots.new classes.new.items) }
 {
     for t in 0..named.len() {
-        let (_, at) = named[t];
+        let at = named[t];
         move_out(slots, at, classes)?;
     }
     Ok(())
@@ -169,7 +169,7 @@ fn unsplit(alloc: Global, all: &IdSet) -> Result<Slots, AllocError>
         cpus: *all,
         first,
         last,
-        label: 0,
+        rank: 0,
     })?;
     Ok(slots)
 }
@@ -208,7 +208,7 @@ fn split_all(
     rows: &[Row],
     k: usize,
     cpus: &IdSet,
-    named: &[(u16, usize)],
+    named: &[usize],
     slots: &mut Slots,
     spans: &mut Spans,
     edges: &IdSet,
@@ -220,7 +220,7 @@ fn split_all(
     requires cpus { AreCpusOf rows.now k cpus.now }
     requires settling { IsSettling rows.now k settling.old }
     requires edges { AreEdges rows.now edges.now }
-    requires named { All (λ t. t.1 < length slots.old) named.now }
+    requires named { All (λ at. at < length slots.old) named.now }
     requires sets { AreLooked rows.now k named.now slots.old alone.old.items }
     ensures sets { OnOk result (AreOnWay rows.now (k + 1) slots.new alone.new.items) }
     ensures settling { OnOk result (IsSettling rows.now (k + 1) settling.new) }
@@ -231,7 +231,7 @@ fn split_all(
     let row = &rows[k];
     spans.note(&row.offers, cpus)?;
     for t in 0..named.len() {
-        let (_, at) = named[t];
+        let at = named[t];
         split(
             rows,
             k,
@@ -317,15 +317,15 @@ fn split_apart(
     ensures settling { OnOk result (IsSettling rows.now k settling.new) }
 {
     let (_, last) = slots.bounds(at);
-    let mut label = slots.label(at);
+    let mut rank = slots.rank(at);
     let mut rest = slots.take(at);
     let mut next = rest.first();
     while let Some(cpu) = next {
         let place = place_of_alike(offers, spans, cpu)?;
         let piece = alike(spans, place, &rest);
-        put(&piece, cpu, last, label, edges, slots, alone)?;
+        put(&piece, cpu, last, rank, edges, slots, alone)?;
+        order.note_of(k, rank, alone.len())?;
         settling.note(spans, cpu, &piece);
-        label = label.wrapping_add(piece.count() as u16);
         rest = rest.minus(&piece);
         next = first_above(&rest, cpu);
     }
@@ -349,7 +349,7 @@ fn put(
     piece: &IdSet,
     first: u16,
     upto: u16,
-    label: u16,
+    rank: usize,
     edges: &IdSet,
     slots: &mut Slots,
     alone: &mut Vec<IdSet>,
@@ -366,7 +366,7 @@ fn put(
             cpus: *piece,
             first,
             last,
-            label,
+            rank,
         })?;
     }
     Ok(())

@@ -1,10 +1,10 @@
 //! The sets of CPUs that rows have split so far, and for each CPU where the one stands that has it.
-ghost use Rattle.std.specs.Prelude.{◌≡◌, ℕ, ◌<◌, ◌≤◌, ◌++◌, [], ◌∷◌, true, All, IfOk, OnOk, length, slice_index_or, slice_set};
+ghost use Rattle.std.specs.Prelude.{◌≡◌, ℕ, ◌<◌, ◌≤◌, ◌++◌, [], ◌∷◌, true, IsTrue, All, IfOk, OnOk, length, slice_index_or, slice_set};
 ghost use Rattle.std.specs.FinSet as set;
 ghost use Rattle.cpu_set.specs.Ids.{Ids};
 ghost use Rattle.cpu_set.specs.declared.TheConstants.{CPU_LIMIT};
 ghost use Rattle.twins.specs.Separates.{IsApart};
-ghost use Rattle.twins.specs.SlotsView.{AreBounds, AreMarked, AreNamed};
+ghost use Rattle.twins.specs.SlotsView.{AreBounds, AreMarked, AreNamed, Names};
 
 use cpu_set::{CPU_LIMIT, IdSet};
 use std::alloc::{AllocError, Global};
@@ -20,8 +20,8 @@ pub(crate) struct Slot {
     // Between these lie its CPUs.
     pub first: u16,
     pub last: u16,
-    // How many CPUs the sets before it have. Sets are in the order of their labels, wherever they stand.
-    pub label: u16,
+    // Its place in the order of the sets.
+    pub rank: usize,
 }
 
 /// Sets of CPUs that rows split, of which no two have a CPU in common. Where a set stands it stays until it is split.
@@ -30,6 +30,8 @@ pub(crate) struct Slots {
     slots: Vec<Slot>,
     // For each CPU of a set where that set stands.
     places: Vec<usize>,
+    // For each set where it stood in the last list in which it was named, if it was: what stands there tells.
+    names: Vec<usize>,
 }
 
 impl Model for Slots {
@@ -59,6 +61,7 @@ impl Slots {
         Ok(Slots {
             slots: Vec::new(alloc),
             places,
+            names: Vec::new(alloc),
         })
     }
 
@@ -87,12 +90,12 @@ impl Slots {
         (slot.first, slot.last)
     }
 
-    /// How many CPUs the sets before a set have.
-    pub(crate) fn label(&self, at: usize) -> u16
+    /// The place of a set in the order of the sets.
+    pub(crate) fn rank(&self, at: usize) -> usize
         requires { at < length self.now }
     {
         let slot = &self.slots[at];
-        slot.label
+        slot.rank
     }
 
     /// Takes a set out, and leaves the empty one.
@@ -107,7 +110,7 @@ impl Slots {
             cpus: IdSet::empty(),
             first: 0,
             last: 0,
-            label: slot.label,
+            rank: slot.rank,
         };
         slot.cpus
     }
@@ -122,58 +125,73 @@ impl Slots {
         ensures { OnOk result (self.new ≡ self.old ++ slot.now.cpus ∷ []) }
     {
         let place = self.slots.len();
+        self.names.push(0)?;
         self.slots.push(*slot)?;
         mark(&mut self.places, &slot.cpus, place);
         Ok(())
     }
 
-    /// The names of the sets that have one of the CPUs, and perhaps of others, in their order: the label of each, and
-    /// where it stands. O(c + t log t) of c CPUs and of t names. A set may be named more than once.
+    /// Where all sets stand.
     ///
     /// # Errors
     /// An allocation failure.
-    pub(crate) fn name(&self, alloc: Global, cpus: &IdSet) -> Result<Vec<(u16, usize)>, AllocError>
-        ensures there { IfOk result (λ named. All (λ t. t.1 < length self.now) named.items) }
-        ensures all { IfOk result (λ named. AreNamed self.now cpus.now named.items) }
+    pub(crate) fn name_all(&self, alloc: Global) -> Result<Vec<usize>, AllocError>
+        ensures there { IfOk result (λ named. All (λ at. at < length self.now) named.items) }
+        ensures all { (cpus : Ids) → IfOk result (λ named. AreNamed self.now cpus named.items) }
     {
-        let mut named = Vec::new(alloc);
-        if cpus.count() as usize > self.slots.len() {
-            self.name_all(&mut named)?;
-        } else {
-            self.name_each(cpus, &mut named)?;
+        let mut named = Vec::with_capacity(alloc, self.slots.len())?;
+        for at in 0..self.slots.len() {
+            named.push(at)?;
         }
-        named.sort_unstable();
         Ok(named)
     }
 
-    /// Names all sets.
-    fn name_all(&self, named: &mut Vec<(u16, usize)>) -> Result<(), AllocError>
-        requires { named.old.items ≡ [] }
-        ensures there { OnOk result (All (λ t. t.1 < length self.now) named.new.items) }
-        ensures all { (cpus : Ids) → OnOk result (AreNamed self.now cpus named.new.items) }
+    /// Where the sets stand that have one of the CPUs, each once. O(w + t) of the words of the CPUs, and of t times that
+    /// a set is met, which is once for each of its words.
+    ///
+    /// # Errors
+    /// An allocation failure.
+    pub(crate) fn name(&mut self, alloc: Global, cpus: &IdSet) -> Result<Vec<usize>, AllocError>
+        ensures same { self.new ≡ self.old }
+        ensures there { IfOk result (λ named. All (λ at. at < length self.old) named.items) }
+        ensures all { IfOk result (λ named. AreNamed self.old cpus.now named.items) }
     {
-        for at in 0..self.slots.len() {
-            named.push((self.label(at), at))?;
-        }
-        Ok(())
-    }
-
-    /// Names each set that has one of the CPUs.
-    fn name_each(&self, cpus: &IdSet, named: &mut Vec<(u16, usize)>) -> Result<(), AllocError>
-        requires { named.old.items ≡ [] }
-        ensures there { OnOk result (All (λ t. t.1 < length self.now) named.new.items) }
-        ensures all { OnOk result (AreNamed self.now cpus.now named.new.items) }
-    {
+        let mut named = Vec::new(alloc);
         let mut next = cpus.first();
         while let Some(cpu) = next {
             let at = self.places[cpu as usize];
-            if at < self.slots.len() {
-                named.push((self.label(at), at))?;
-            }
-            next = cpus.next_after(cpu);
+            next = if self.stands_at(at, cpu) {
+                name_one(&mut self.names, &mut named, at)?;
+                cpus.next_outside(cpu, self.cpus(at))
+            } else {
+                cpus.next_after(cpu)
+            };
         }
-        Ok(())
+        Ok(named)
     }
+
+    // Whether a set stands there that has the CPU.
+    fn stands_at(&self, at: usize, cpu: u16) -> bool
+        ensures there { IsTrue result → at < length self.now }
+        ensures has { result ≡ set.contains (slice_index_or self.now at set.empty) cpu }
+    {
+        at < self.slots.len() && self.cpus(at).contains(cpu)
+    }
+}
+
+/// Adds a place to a list, if it is not seen to be there.
+fn name_one(names: &mut Vec<usize>, named: &mut Vec<usize>, at: usize) -> Result<(), AllocError>
+    ensures { OnOk result (Names at named.old.items named.new.items) }
+{
+    if at < names.len() {
+        let hint = names[at];
+        if hint < named.len() && named[hint] == at {
+            return Ok(());
+        }
+        names[at] = named.len();
+    }
+    named.push(at)?;
+    Ok(())
 }
 
 /// Notes for each CPU of a set where the set stands.
