@@ -1,8 +1,9 @@
 -- Sets of CPUs by their places, as they are taken out and added.
-use Rattle.std.proofs.Common.{◌≡◌, ℕ, ◌+◌, ◌<◌, ◌≤◌, ◌==◌, Bool, true, false, cond, List, [], ◌∷◌, ◌++◌, length, map, get_or, refl, sym, ap, subst, ◌∙◌, inl, inr, arith}
+use Rattle.std.proofs.Common.{◌≡◌, ℕ, ◌+◌, ◌<◌, ◌≤◌, ◌==◌, Bool, true, false, cond, nat_lt, List, [], ◌∷◌, ◌++◌, length, map, get_or, refl, sym, ap, subst, ◌∙◌, inl, inr, arith}
 use Rattle.std.proofs.Math.ListN.{set as set_at, take, drop}
 use Rattle.std.specs.FinSet as set
 use Rattle.std.specs.List.{All}
+use Rattle.std.proofs.lemmas.Bool.Decides.{nat_tests}
 use Rattle.std.proofs.lemmas.Bool.{cases_lt, cases_eq, true≢false, false_from_ne_true}
 use Rattle.std.proofs.lemmas.List.{map-set, length-map, get_or-map, get_or-set_same, get_or-set_other, get_or_push, get_or_append_left, get_or_past, length_push, take-append-le, take_all}
 use Rattle.std.proofs.lemmas.List.Elements.{All-set, All-push, All-append}
@@ -105,3 +106,19 @@ place_of slots places sets at cpu place placed is here lt has =
 
 pub count_of_sets : (slots : List Slot) (sets : List Ids) → sets_of slots ≡ sets → length sets ≡ length slots
 count_of_sets slots sets is = ap length (sym is) ∙ length-map slots (λ (s : Slot). s.cpus)
+
+-- past all sets none has a CPU
+pub none_stands : (sets : List Ids) (at n cpu : ℕ) → n ≡ length sets → n ≤ at → nat_lt at n ≡ set.contains (get_or sets at set.empty) cpu
+none_stands sets at n cpu count past =
+    not_below at n past ∙ sym (ap (λ s. set.contains s cpu) (get_or_past sets at set.empty (omega (arith, count, past))) ∙ contains-empty cpu)
+  where
+    not_below : (a b : ℕ) → b ≤ a → nat_lt a b ≡ false
+    not_below a b le = grind (arith, nat_tests)
+
+-- a CPU is in the set of one place alone
+pub one_place : (slots : List Slot) (places : List ℕ) (sets : List Ids) (at q cpu : ℕ) → ArePlaced slots places → sets_of slots ≡ sets
+    → set.contains (get_or sets at set.empty) cpu ≡ true → set.contains (get_or sets q set.empty) cpu ≡ true → at ≡ q
+one_place slots places sets at q cpu placed is has other = sym (place at has) ∙ place q other
+  where
+    place : (k : ℕ) → set.contains (get_or sets k set.empty) cpu ≡ true → get_or places cpu 0 ≡ k
+    place k on = placed.placed k cpu (subst (λ l. set.contains (get_or l k set.empty) cpu ≡ true) (sym is) on)

@@ -1,5 +1,5 @@
 -- Walks over the CPUs of a set, in rising order: one that writes a number at each, and one that names what stands at each.
-use Rattle.std.proofs.Common.{◌≡◌, ℕ, ◌+◌, ◌<◌, ◌≤◌, ◌==◌, inl, inr, true, false, cond, List, [], ◌∷◌, ◌++◌, length, get_or, Option, Some, None, refl, sym, ap, ◌∙◌, arith}
+use Rattle.std.proofs.Common.{◌≡◌, ℕ, ◌+◌, ◌<◌, ◌≤◌, ◌==◌, inl, inr, Bool, true, false, not, ◌&&◌, cond, List, [], ◌∷◌, ◌++◌, length, get_or, Option, Some, None, refl, sym, ap, ◌∙◌, arith}
 use Rattle.std.specs.Prelude.{IfSome, MatchOption}
 use Rattle.std.proofs.lemmas.Bool.{cases_lt, cases_eq, true≢false, false≢true, eq-eqb}
 use Rattle.std.proofs.lemmas.List.{length-set, get_or-set_same, get_or-set_other}
@@ -12,7 +12,7 @@ use Rattle.std.specs.List.{All}
 use Rattle.std.proofs.lemmas.List.{get_or_past}
 use Rattle.std.proofs.lemmas.List.Elements.{All-push}
 use Rattle.std.proofs.lemmas.List.Sums.{sum_by_push}
-use Rattle.cpu_set.specs.PointwiseLaws.{contains-empty}
+use Rattle.cpu_set.specs.PointwiseLaws.{contains-difference, contains-empty}
 use Rattle.twins.specs.SlotsView.{times_named}
 
 -- where a walk stands: at its next CPU, or past all
@@ -148,6 +148,33 @@ IsNaming-more sets cpus named more cpu next so_far there grown here is = record 
   ];
   in_range = is.1;
 }
+
+there_alone : (a b : Bool) → a ≡ true → b ≡ false → (a && not b) ≡ true
+there_alone true false p q = refl
+there_alone true true p q = absurd (true≢false q)
+there_alone false b p q = p
+
+-- the walk goes on behind a CPU of a set that it has named, outside of that
+pub IsNaming-outside : (sets : List Ids) (cpus s : Ids) (named more : List ℕ) (cpu : ℕ) (next : Option ℕ) → IsNaming sets cpus named (Some cpu)
+    → All (λ (t : ℕ). t < length sets) more → ((at : ℕ) → times_named at named ≤ times_named at more)
+    → ((at c : ℕ) → set.contains s c ≡ true → set.contains (get_or sets at set.empty) c ≡ true → 1 ≤ times_named at more) → set.contains s cpu ≡ true
+    → IsNext (set.difference cpus s) (cpu + 1) next → IsNaming sets cpus more next
+IsNaming-outside sets cpus s named more cpu next so_far there grown here own is = record {
+  there = there;
+  passed = λ at c before has member. elim (cases_lt c cpu) [
+    | inl less ↦ omega (arith, grown at, so_far.passed at c less has member)
+    | inr not_less ↦ by_set at c before has member not_less (set.contains s c) refl
+  ];
+  in_range = is.1;
+}
+  where
+    by_set : (at c : ℕ) → IsPassed next c → set.contains (get_or sets at set.empty) c ≡ true → set.contains cpus c ≡ true → cpu ≤ c → (b : Bool) → set.contains s c ≡ b
+        → 1 ≤ times_named at more
+    by_set at c before has member le true on = here at c on has
+    by_set at c before has member le false off =
+        let differs : cpu ≡ c → ⊥ = λ e. true≢false (sym own ∙ ap (set.contains s) e ∙ off) in
+        let above : cpu + 1 ≤ c = omega (arith, le, differs) in
+        absurd (false≢true (sym (nothing_between (set.difference cpus s) (cpu + 1) c next is above before) ∙ contains-difference cpus s c ∙ there_alone (set.contains cpus c) (set.contains s c) member off))
 
 pub named_more : (named : List ℕ) (t : ℕ) (at : ℕ) → times_named at (named ++ t ∷ []) ≡ times_named at named + cond (t == at) 1 0
 named_more named t at = sum_by_push (λ (x : ℕ). cond {A = ℕ} (x == at) 1 0) named t

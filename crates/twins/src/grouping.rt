@@ -23,6 +23,7 @@ use crate::Classes;
 use crate::alike::{alike, are_alike, place_of_alike};
 use crate::differing::separating;
 use crate::edges::{are_in_one_run, edges_of};
+use crate::order::{Order, Stands, in_order};
 use crate::settling::Settling;
 use crate::slots::{Slot, Slots, bounds_of, last_up_to};
 use crate::spans::Spans;
@@ -32,6 +33,9 @@ use std::alloc::{AllocError, Global};
 
 /// How many offers tell the rows of one home from those of others.
 const NEAR_OFFERS: usize = 2;
+
+/// At how many sets all are looked at, since to find those that a row may split would take longer.
+const FEW_SETS: usize = 32;
 
 /// The CPUs with a weight in some row, in classes of twins. A CPU with none is in no class.
 ///
@@ -66,6 +70,7 @@ fn group_body(alloc: Global, rows: &[Row], kinds: &[usize]) -> Result<Vec<IdSet>
     let edges = edges_of(rows, kinds, &offered);
     let runs = edges.meet(&offered).count();
     let mut alone = Vec::with_capacity(alloc, runs as usize)?;
+    let mut order = Order::new(alloc)?;
     let mut slots = unsplit(alloc, &offered)?;
     let mut spans = Spans::new(alloc)?;
     let mut settling = Settling::new(once, offered.count(), runs);
@@ -74,8 +79,12 @@ fn group_body(alloc: Global, rows: &[Row], kinds: &[usize]) -> Result<Vec<IdSet>
     for k in 0..rows.len() {
         if kinds[k] == k {
             let last = nearest_end(&rows[k]) as usize;
-            let apart = separating(rows, k, latest[last], &sets[kind]);
-            let named = slots.name(alloc, &apart)?;
+            let named = if slots.len() <= FEW_SETS {
+                slots.name_all(alloc)?
+            } else {
+                let apart = separating(rows, k, latest[last], &sets[kind]);
+                slots.name(alloc, &apart)?
+            };
             split_all(
                 rows,
                 k,
@@ -86,14 +95,14 @@ fn group_body(alloc: Global, rows: &[Row], kinds: &[usize]) -> Result<Vec<IdSet>
                 &edges,
                 &mut settling,
                 &mut alone,
+                &mut order,
             )?;
             latest[last] = k;
             kind += 1;
         }
     }
-    let named = slots.name(alloc, &offered)?;
-    move_all(&mut slots, &named, &mut alone)?;
-    Ok(alone)
+    move_all(&mut slots, &mut alone, &mut order)?;
+    in_order(alloc, alone.as_slice(), &order)
 }
 
 /// The greatest CPU at the ends of the first offers' last ranges, and 0 where there is none. Rows of one home mostly have
@@ -110,47 +119,35 @@ fn nearest_end(row: &Row) -> u16
     end
 }
 
-/// Adds the sets that are left to the classes, first those that are named, in that order.
+/// Adds the sets that are left to the classes.
 fn move_all(
     slots: &mut Slots,
-    named: &[usize],
     classes: &mut Vec<IdSet>,
+    order: &mut Order,
 ) -> Result<(), AllocError>
-    requires { All (λ at. at < length slots.old) named.now }
     ensures { (rows : List RowView) → AreOnWay rows (length rows) slots.old classes.old.items
         → OnOk result (IsGrouping rows classes.new.items) }
 {
-    move_named(slots, named, classes)?;
     for at in 0..slots.len() {
-        move_out(slots, at, classes)?;
-    }
-    Ok(())
-}
-
-/// Adds the sets that are named to the classes, in that order.
-fn move_named(
-    slots: &mut Slots,
-    named: &[usize],
-    classes: &mut Vec<IdSet>,
-) -> Result<(), AllocError>
-    requires { All (λ at. at < length slots.old) named.now }
-    ensures { (rows : List RowView) → AreOnWay rows (length rows) slots.old classes.old.items
-        → OnOk result (AreOnWay rows (length rows) slots.new classes.new.items) }
-{
-    for t in 0..named.len() {
-        let at = named[t];
-        move_out(slots, at, classes)?;
+        move_out(slots, at, classes, order)?;
     }
     Ok(())
 }
 
 /// Adds a set to the classes, if it is there yet.
-fn move_out(slots: &mut Slots, at: usize, classes: &mut Vec<IdSet>) -> Result<(), AllocError>
+fn move_out(
+    slots: &mut Slots,
+    at: usize,
+    classes: &mut Vec<IdSet>,
+    order: &mut Order,
+) -> Result<(), AllocError>
     requires { at < length slots.old }
     ensures { OnOk result (IsMovedOut at slots.old classes.old.items slots.new classes.new.items) }
 {
+    let rank = slots.rank(at);
     let cpus = slots.take(at);
     if !cpus.is_empty() {
+        order.note_left(rank)?;
         classes.push(cpus)?;
     }
     Ok(())
@@ -214,6 +211,7 @@ fn split_all(
     edges: &IdSet,
     settling: &mut Settling,
     alone: &mut Vec<IdSet>,
+    order: &mut Order,
 ) -> Result<(), AllocError>
     requires fit { IsTrue (list_all row_fits rows.now) }
     requires there { k < length rows.now }
@@ -242,6 +240,7 @@ fn split_all(
             at,
             slots,
             alone,
+            order,
         )?;
     }
     settling.turn();
@@ -260,6 +259,7 @@ fn split(
     at: usize,
     slots: &mut Slots,
     alone: &mut Vec<IdSet>,
+    order: &mut Order,
 ) -> Result<(), AllocError>
     requires fit { IsTrue (list_all row_fits rows.now) }
     requires there { k < length rows.now }
@@ -285,7 +285,9 @@ fn split(
     if whole {
         return Ok(());
     }
-    split_apart(rows, k, offers, spans, edges, settling, at, slots, alone)
+    split_apart(
+        rows, k, offers, spans, edges, settling, at, slots, alone, order,
+    )
 }
 
 /// One set, split by the weights that its CPUs have in row `k`.
@@ -302,6 +304,7 @@ fn split_apart(
     at: usize,
     slots: &mut Slots,
     alone: &mut Vec<IdSet>,
+    order: &mut Order,
 ) -> Result<(), AllocError>
     requires fit { IsTrue (list_all row_fits rows.now) }
     requires there { k < length rows.now }
@@ -323,11 +326,12 @@ fn split_apart(
     while let Some(cpu) = next {
         let place = place_of_alike(offers, spans, cpu)?;
         let piece = alike(spans, place, &rest);
-        put(&piece, cpu, last, rank, edges, slots, alone)?;
-        order.note_of(k, rank, alone.len())?;
+        let stands = Stands { row: k, rank };
+        put(&piece, cpu, last, stands, edges, slots, alone, order)?;
         settling.note(spans, cpu, &piece);
         rest = rest.minus(&piece);
         next = first_above(&rest, cpu);
+        rank = order.after(rank)?;
     }
     Ok(())
 }
@@ -349,10 +353,11 @@ fn put(
     piece: &IdSet,
     first: u16,
     upto: u16,
-    rank: usize,
+    stands: Stands,
     edges: &IdSet,
     slots: &mut Slots,
     alone: &mut Vec<IdSet>,
+    order: &mut Order,
 ) -> Result<(), AllocError>
     requires bounds { AreBounds piece.now first upto }
     requires apart { All (λ s. IsApart s piece.now) slots.old }
@@ -360,13 +365,14 @@ fn put(
 {
     let last = last_up_to(piece, upto);
     if are_in_one_run(first, last, edges) {
+        order.note(stands.row, stands.rank)?;
         alone.push(*piece)?;
     } else {
         slots.add(&Slot {
             cpus: *piece,
             first,
             last,
-            rank,
+            rank: stands.rank,
         })?;
     }
     Ok(())

@@ -8,6 +8,13 @@ use std::alloc::{AllocError, Global};
 /// Behind the last place, and the row of a set that no row found to be a class.
 const NONE: usize = usize::MAX;
 
+/// Where a piece of a set stands in the order, and the row that makes it.
+#[derive(Clone, Copy)]
+pub(crate) struct Stands {
+    pub row: usize,
+    pub rank: usize,
+}
+
 /// The sets that rows split, in a list in which the pieces of a set take its place, and for each class where it came from.
 /// It says in which order classes stand, and nothing else rests on it.
 #[derive(Drop)]

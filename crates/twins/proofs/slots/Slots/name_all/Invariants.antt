@@ -4,6 +4,6 @@ use Rattle.twins.proofs.slots.Slots.name_all.Given as goal
 
 abbrev pub invariant-loop-at : goal.invariant-loop-at
 invariant-loop-at l = record {
-  there : All (λ t. t.1 < length l.self) l.named.items;
+  there : All (λ t. t < length l.self) l.named.items;
   passed : (q : ℕ) → q < l.at → 1 ≤ times_named q l.named.items;
 }
