@@ -16,9 +16,11 @@ use Rattle.certificate.specs.IsDealt.{AreTwins}
 use Rattle.certificate.specs.IsShortage.{is_offered}
 use Rattle.twins.specs.IsGrouping.{IsGrouping}
 use Rattle.twins.specs.IsPart.{IsPart, IsUnsplit, times_in}
-use Rattle.twins.specs.OnWay.{AreLooked, AreOnWay, IsLooked, IsMovedOut, IsOpenSlot, IsSlot, IsSplitAt}
+use Rattle.twins.specs.OnWay.{AreAllParts, AreLooked, AreOnWay, IsLooked, IsMovedOut, IsOpenSlot, IsSlot, IsSplitAt}
+use Rattle.twins.specs.Reordered.{IsReordered}
 use Rattle.twins.specs.Separates.{IsApart, Separates}
 use Rattle.twins.specs.SlotsView.{AreNamed, times_named}
+use Rattle.twins.proofs.Reordered.{parts_reordered}
 use Rattle.twins.proofs.Sets.{there, empty_contains}
 use Rattle.twins.proofs.Splitting.{open_of_next, open_of_part, twins_before}
 use Rattle.twins.proofs.Times.{apart_of_times, is_held_of_times, in_times}
@@ -226,5 +228,13 @@ none_in (s ∷ sets) c none =
 
 -- no set is left: what is alone are the classes
 pub way_end :
-    (rows : List RowView) (sets classes : List Ids) → AreOnWay rows (length rows) sets classes → ((q : ℕ) → q < length sets → get_or sets q set.empty ≡ set.empty) → IsGrouping rows classes
-way_end rows sets classes so_far none = grouping rows classes so_far.lone (λ c. omega (arith, so_far.once c, none_in sets c none))
+    (rows : List RowView) (sets classes : List Ids) → AreOnWay rows (length rows) sets classes → ((q : ℕ) → q < length sets → get_or sets q set.empty ≡ set.empty) → AreAllParts rows classes
+way_end rows sets classes so_far none = record {
+  parts = so_far.lone;
+  once = λ c. omega (arith, so_far.once c, none_in sets c none);
+}
+
+-- in any order
+pub grouping_sorted : (rows : List RowView) (classes sorted : List Ids) → AreAllParts rows classes → IsReordered classes sorted → IsGrouping rows sorted
+grouping_sorted rows classes sorted all is =
+    grouping rows sorted (parts_reordered (IsPart rows (length rows)) classes sorted is all.parts) (λ c. is.same c ∙ all.once c)

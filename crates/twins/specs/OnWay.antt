@@ -43,3 +43,8 @@ pub record IsMovedOut (at : ℕ) (sets classes sets_new classes_new : List Ids) 
   pub left : sets_new ≡ slice_set sets at set.empty
   pub added : (d : Ids) → ((slice_index_or sets at d ≡ set.empty) × (classes_new ≡ classes))
       ⊎ ((slice_index_or sets at d ≡ set.empty → ⊥) × (classes_new ≡ classes ++ slice_index_or sets at d ∷ []))
+
+-- the parts that all rows leave whole, which have each CPU with a weight once
+pub record AreAllParts (rows : List RowView) (classes : List Ids) : Type 0 where
+  pub parts : All (IsPart rows (length rows)) classes
+  pub once : (cpu : ℕ) → times_in classes cpu ≡ cond (is_offered rows cpu) 1 0

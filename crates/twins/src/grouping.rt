@@ -3,7 +3,7 @@ ghost use Rattle.std.specs.Prelude.{◌≡◌, ℕ, ◌<◌, ◌≤◌, ◌+◌,
 ghost use Rattle.std.specs.Prelude.{All, length, slice_index_or};
 ghost use Rattle.std.specs.List.{list_all};
 ghost use Rattle.std.specs.FinSet as set;
-ghost use Rattle.cpu_set.specs.Ids.{NoneFrom, IsFirstFrom};
+ghost use Rattle.cpu_set.specs.Ids.{Ids, NoneFrom, IsFirstFrom};
 ghost use Rattle.cpu_set.specs.Members.{IsCpu};
 ghost use Rattle.certificate.specs.RowView.{RowView};
 ghost use Rattle.certificate.specs.Limits.{row_fits};
@@ -17,7 +17,7 @@ ghost use Rattle.twins.specs.Separates.{IsApart};
 ghost use Rattle.twins.specs.Settled.{AreOnce, IsSettling};
 ghost use Rattle.twins.specs.SlotsView.{AreBounds};
 ghost use Rattle.twins.specs.IsPart.{IsPart, IsOpen, IsUnsplit, IsPutTo};
-ghost use Rattle.twins.specs.OnWay.{AreLooked, AreOnWay, IsMovedOut, IsOpenSlot, IsSplitAt};
+ghost use Rattle.twins.specs.OnWay.{AreAllParts, AreLooked, AreOnWay, IsMovedOut, IsOpenSlot, IsSplitAt};
 
 use crate::Classes;
 use crate::alike::{alike, are_alike, place_of_alike};
@@ -79,12 +79,7 @@ fn group_body(alloc: Global, rows: &[Row], kinds: &[usize]) -> Result<Vec<IdSet>
     for k in 0..rows.len() {
         if kinds[k] == k {
             let last = nearest_end(&rows[k]) as usize;
-            let named = if slots.len() <= FEW_SETS {
-                slots.name_all(alloc)?
-            } else {
-                let apart = separating(rows, k, latest[last], &sets[kind]);
-                slots.name(alloc, &apart)?
-            };
+            let named = name_for(alloc, rows, k, latest[last], &sets[kind], &mut slots)?;
             split_all(
                 rows,
                 k,
@@ -102,7 +97,8 @@ fn group_body(alloc: Global, rows: &[Row], kinds: &[usize]) -> Result<Vec<IdSet>
         }
     }
     move_all(&mut slots, &mut alone, &mut order)?;
-    in_order(alloc, alone.as_slice(), &order)
+    let sorted = in_order(alloc, alone.as_slice(), &order)?;
+    Ok(sorted)
 }
 
 /// The greatest CPU at the ends of the first offers' last ranges, and 0 where there is none. Rows of one home mostly have
@@ -119,6 +115,31 @@ fn nearest_end(row: &Row) -> u16
     end
 }
 
+/// Where the sets stand that row `k` may split, compared with row `j`, and perhaps others.
+fn name_for(
+    alloc: Global,
+    rows: &[Row],
+    k: usize,
+    j: usize,
+    cpus: &IdSet,
+    slots: &mut Slots,
+) -> Result<Vec<usize>, AllocError>
+    requires there { k < length rows.now }
+    requires cpus { AreCpusOf rows.now k cpus.now }
+    ensures same { slots.new ≡ slots.old }
+    ensures named { IfOk result (λ named. All (λ at. at < length slots.old) named.items) }
+    ensures all { IfOk result (λ named. (alone : List Ids) → AreOnWay rows.now k slots.old alone
+        → AreLooked rows.now k named.items slots.old alone) }
+{
+    if slots.len() <= FEW_SETS {
+        let named = slots.name_all(alloc)?;
+        return Ok(named);
+    }
+    let apart = separating(rows, k, j, cpus);
+    let named = slots.name(alloc, &apart)?;
+    Ok(named)
+}
+
 /// Adds the sets that are left to the classes.
 fn move_all(
     slots: &mut Slots,
@@ -126,7 +147,7 @@ fn move_all(
     order: &mut Order,
 ) -> Result<(), AllocError>
     ensures { (rows : List RowView) → AreOnWay rows (length rows) slots.old classes.old.items
-        → OnOk result (IsGrouping rows classes.new.items) }
+        → OnOk result (AreAllParts rows classes.new.items) }
 {
     for at in 0..slots.len() {
         move_out(slots, at, classes, order)?;

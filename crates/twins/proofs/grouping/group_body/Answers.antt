@@ -3,10 +3,11 @@ use Rattle.std.proofs.lemmas.List.{get_or_default, length-set}
 use Rattle.cpu_set.specs.Ids.{Ids}
 use Rattle.twins.specs.OnWay.{AreLooked, AreOnWay}
 use Rattle.std.specs.FinSet as set
+use Rattle.twins.specs.Reordered.{IsReordered}
 use Rattle.twins.specs.RowCpus.{AreCpusOf}
 use Rattle.twins.proofs.RowCpus.{first_in, first_more, first_same}
 use Rattle.twins.specs.Kinds.{kind_at}
-use Rattle.twins.proofs.Grouped.{looked_start, way_repeated, way_start}
+use Rattle.twins.proofs.Grouped.{grouping_sorted, way_repeated, way_start}
 use Rattle.twins.proofs.SettledCpus.{settling_next}
 use Rattle.twins.proofs.SameOffers.{kind_tells_none}
 use Rattle.twins.proofs.grouping.group_body.Goals as goal
@@ -33,8 +34,8 @@ of_row c s is =
 pub index-requires-then-kinds-k : goal.index-requires-then-kinds-k
 index-requires-then-kinds-k c = omega (arith, in_sets (goal.at.index-requires-then-kinds-k c).Then-kinds-k, c.offered_cpus.new.sets.ok.0)
 
-pub separating-apart-requires-clause-cpus : goal.separating-apart-requires-clause-cpus
-separating-apart-requires-clause-cpus c = of_row (goal.at.separating-apart-requires-clause-cpus c).Then-kinds-k c.index-then-kinds-k.result.now c.index-then-kinds-k.ensures
+pub name_for-requires-clause-cpus : goal.name_for-requires-clause-cpus
+name_for-requires-clause-cpus c = of_row (goal.at.name_for-requires-clause-cpus c).Then-kinds-k c.index-then-kinds-k.result.now c.index-then-kinds-k.ensures
 
 pub index-requires-then-kinds-k-2 : goal.index-requires-then-kinds-k-2
 index-requires-then-kinds-k-2 c = omega (arith, in_sets (goal.at.index-requires-then-kinds-k-2 c).Then-kinds-k, c.offered_cpus.new.sets.ok.0)
@@ -44,8 +45,9 @@ split_all-requires-clause-cpus c = of_row (goal.at.split_all-requires-clause-cpu
 
 pub split_all-requires-clause-sets : goal.split_all-requires-clause-sets
 split_all-requires-clause-sets c =
-    subst (λ (named : List (ℕ × ℕ)). AreLooked c.args.rows.now c.loop-k.k named c.loop-k.slots c.loop-k.alone.items) (sym c.deref.ensures.value)
-    (looked_start _ _ _ _ _ _ c.loop-k.invariant.way c.in_ok-named.ensures.all c.separating-apart.ensures)
+    subst (λ (named : List ℕ). AreLooked c.args.rows.now c.loop-k.k named c.name_for.new.slots c.loop-k.alone.items) (sym c.deref.ensures.value)
+    (subst (λ (slots : List Ids). AreLooked c.args.rows.now c.loop-k.k c.in_ok-named.named.items slots c.loop-k.alone.items) (sym c.name_for.ensures.same)
+    (c.in_ok-named.ensures.all c.loop-k.alone.items c.loop-k.invariant.way))
 
 pub overflow_add-kind : goal.overflow_add-kind
 overflow_add-kind c = omega (arith, in_sets (goal.at.overflow_add-kind c).Then-kinds-k, c.offered_cpus.new.sets.ok.0, c.offered_cpus.new.sets.small)
@@ -75,4 +77,5 @@ loop-k-preserved c = elim c.if-kinds-k.branch [
 pub returns : goal.returns
 returns c =
     let all : c.loop-k.k ≡ length c.args.rows.now = omega arith in
-    c.in_ok-move_all.ensures c.args.rows.now (subst (λ k. AreOnWay c.args.rows.now k c.loop-k.slots c.loop-k.alone.items) all c.loop-k.invariant.way)
+    grouping_sorted c.args.rows.now _ _ (c.in_ok-move_all.ensures c.args.rows.now (subst (λ k. AreOnWay c.args.rows.now k c.loop-k.slots c.loop-k.alone.items) all c.loop-k.invariant.way))
+    (subst (λ (l : List Ids). IsReordered l c.in_ok-sorted.sorted.items) c.as_slice.ensures.value c.in_ok-sorted.ensures)

@@ -7,7 +7,7 @@ use Rattle.twins.proofs.grouping.move_all.Goals as goal
 
 pub loop-at-init : goal.loop-at-init
 loop-at-init c = record {
-  way = λ rows start. c.in_ok-move_named.ensures rows start;
+  way = λ rows start. start;
   none = λ q lt. absurd (omega arith);
   long = refl;
 }

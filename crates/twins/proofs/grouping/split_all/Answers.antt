@@ -30,14 +30,14 @@ returns-then-is_empty-clause-settling c = settling_next _ _ _ c.requires.settlin
 
 pub split-requires-clause-slot : goal.split-requires-clause-slot
 split-requires-clause-slot c =
-    slot_open _ _ (drop c.loop-t.t c.args.named.now) (get_or c.args.named.now c.loop-t.t (0, 0)).1 _ (c.loop-t.invariant.sets.each (get_or c.args.named.now c.loop-t.t (0, 0)).1 set.empty (omega (arith, c.requires.named c.loop-t.t (0, 0) (omega (arith, c.loop-t-test.true)), c.loop-t.invariant.long)))
+    slot_open _ _ (drop c.loop-t.t c.args.named.now) (get_or c.args.named.now c.loop-t.t 0) _ (c.loop-t.invariant.sets.each (get_or c.args.named.now c.loop-t.t 0) set.empty (omega (arith, c.requires.named c.loop-t.t 0 (omega (arith, c.loop-t-test.true)), c.loop-t.invariant.long)))
 
 pub loop-t-preserved : goal.loop-t-preserved
 loop-t-preserved c = record {
   spans = c.in_ok-split.ensures.spans;
   settling = c.in_ok-split.ensures.settling;
   long = omega (arith, c.loop-t.invariant.long, c.in_ok-split.ensures.split.long);
-  sets = looked_more _ _ c.loop-t.t _ (0, 0) c.args.named.now _ _ _ _ (omega (arith, c.loop-t-test.true)) refl c.loop-t.invariant.sets c.in_ok-split.ensures.split;
+  sets = looked_more _ _ c.loop-t.t _ 0 c.args.named.now _ _ _ _ (omega (arith, c.loop-t-test.true)) refl c.loop-t.invariant.sets c.in_ok-split.ensures.split;
 }
 
 pub returns-clause-settling : goal.returns-clause-settling
